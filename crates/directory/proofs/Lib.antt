@@ -1,0 +1,11 @@
+pub mod Tests
+pub mod Search
+pub mod Blocks
+pub mod Slots
+pub mod Cursors
+pub mod Opening
+pub mod Rules
+pub mod Named
+pub mod Claims
+pub mod Cases
+pub mod Descriptors

@@ -1,0 +1,14 @@
+pub mod Limits
+pub mod Answer
+pub mod Search
+pub mod Blocks
+pub mod Slots
+pub mod Opening
+pub mod Lookup
+pub mod Cursor
+pub mod Listing
+pub mod Places
+pub mod Room
+pub mod Rules
+pub mod Named
+pub mod Cases

@@ -1,0 +1,168 @@
+// The directory of an HDF4 image: data descriptor blocks and their slots. Opening is the door that every call goes through first.
+mod chain;
+mod cursor;
+pub mod format;
+pub mod listing;
+pub mod refusals;
+mod slot;
+
+use chain::Walked;
+use cursor::Cursor;
+use format::FREE;
+use format::MAGIC;
+use format::MOST_BYTES;
+use refusals::ABSENT;
+use refusals::NOT_HDF;
+use refusals::TOO_LONG;
+use refusals::TWICE;
+ghost use mathlib.Core.Path.{_≡_};
+ghost use mathlib.Core.List.{[]};
+ghost use Prim.Native.Nat.{_≤_};
+ghost use lib.ListN.{length, take};
+ghost use Rattle.directory.specs.Answer.{openedNumbers, foundNumbers, refusalOf};
+ghost use Rattle.directory.specs.Slots.{slotPlaces};
+ghost use Rattle.directory.specs.Opening.{headed, slotsFrom, openOf};
+ghost use Rattle.directory.specs.Lookup.{has, hitAnswer, findOf};
+ghost use Rattle.directory.specs.Search.{first};
+ghost use Rattle.directory.specs.Cursor.{slotsAfter};
+ghost use Rattle.directory.specs.Places.{Blocks, Follows};
+
+// A refusal's number and place.
+pub struct Refusal {
+    pub number: usize,
+    pub place: usize,
+}
+
+// How many blocks and slots the chain has, and how many of the slots are live.
+pub struct Counts {
+    pub blocks: usize,
+    pub slots: usize,
+    pub live: usize,
+}
+
+pub enum Opened {
+    Accepted(Counts),
+    Refused(Refusal),
+}
+
+// The place of a slot.
+pub enum Found {
+    At(usize),
+    Missing(Refusal),
+}
+
+fn is_hdf(image: &[u8]) -> bool
+    ensures { λ r. ⌜ r ≡ headed (now (image .entry)) ⌝ }
+{
+    if image.len() < 4 {
+        return false;
+    }
+    wire::read32(image, 0) == MAGIC
+}
+
+// The rules of all slots, in chain order, and how many are live.
+fn check_slots(image: &[u8], places: &[usize; 256], blocks: usize, slots: usize) -> Opened
+    requires { ⌜ Blocks (now image) (now places) blocks × Follows (now image) (take blocks (now places)) blocks slots ⌝ }
+    ensures { λ r. ⌜ openedNumbers r ≡ slotsFrom (now (image .entry)) (take blocks (now (places .entry))) [] (slotPlaces (now (image .entry)) (take blocks (now (places .entry)))) 0 ⌝ }
+{
+    let mut at = Cursor::start(image, blocks);
+    let mut passed = 0;
+    let mut live = 0;
+    'slots: loop {
+        if passed == slots {
+            break 'slots Opened::Accepted(Counts {
+                blocks,
+                slots,
+                live,
+            });
+        }
+        let p = at.place;
+        if wire::read16(image, p) != FREE {
+            let number = slot::element_fault(image, places, blocks, p);
+            if number != 0 {
+                break 'slots Opened::Refused(Refusal { number, place: p });
+            }
+            let mut earlier = Cursor::start(image, blocks);
+            let mut i = 0;
+            while i < passed {
+                if slot::clashes(image, p, earlier.place) {
+                    break 'slots Opened::Refused(Refusal {
+                        number: TWICE,
+                        place: p,
+                    });
+                }
+                earlier = earlier.advanced(image);
+                i += 1;
+            }
+            live += 1;
+        }
+        at = at.advanced(image);
+        passed += 1;
+    }
+}
+
+// Opens an image: the counts of its chain, or the first rule that it breaks.
+pub fn open(image: &[u8]) -> Opened
+    ensures { λ r. ⌜ openedNumbers r ≡ openOf (now (image .entry)) ⌝ }
+{
+    if MOST_BYTES < image.len() {
+        return Opened::Refused(Refusal {
+            number: TOO_LONG,
+            place: 0,
+        });
+    }
+    if !is_hdf(image) {
+        return Opened::Refused(Refusal {
+            number: NOT_HDF,
+            place: 0,
+        });
+    }
+    let mut places = [0; 256];
+    let walked = chain::walk(image, &mut places);
+    match walked {
+        Walked::Broken(fault) => Opened::Refused(fault),
+        Walked::Whole { blocks, slots } => check_slots(image, &places, blocks, slots),
+    }
+}
+
+// The refusal of an image that does not open.
+pub fn refusal_of(opened: Opened) -> Refusal
+    ensures { λ r. ⌜ r ≡ refusalOf opened ⌝ }
+{
+    match opened {
+        Opened::Accepted(_) => Refusal {
+            number: 0,
+            place: 0,
+        },
+        Opened::Refused(r) => r,
+    }
+}
+
+// The first live slot of a chain of so many blocks that has the base tag of a tag and a reference.
+pub fn find_slot(image: &[u8], blocks: usize, tag: u16, reference: u16) -> Found
+    ensures { λ r. ⌜ foundNumbers r ≡ hitAnswer (first (has (now (image .entry)) tag reference) (slotsAfter (now (image .entry)) blocks 4)) ⌝ }
+{
+    let mut at = Cursor::start(image, blocks);
+    while 0 < at.left {
+        let p = at.place;
+        if slot::matches(image, tag as usize, reference as usize, p) {
+            return Found::At(p);
+        }
+        at = at.advanced(image);
+    }
+    Found::Missing(Refusal {
+        number: ABSENT,
+        place: 0,
+    })
+}
+
+// The place of the one live slot that has the base tag of a tag and a reference.
+pub fn find(image: &[u8], tag: u16, reference: u16) -> Found
+    ensures { λ r. ⌜ foundNumbers r ≡ findOf (now (image .entry)) tag reference ⌝ }
+{
+    let opened = open(image);
+    let Opened::Accepted(counts) = opened else {
+        return Found::Missing(refusal_of(opened));
+    };
+    find_slot(image, counts.blocks, tag, reference)
+}

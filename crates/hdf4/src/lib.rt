@@ -1,0 +1,96 @@
+// The C interface. Each function takes slices as pointer and length, calls the layer that does the work, and returns a struct of
+// numbers: number and place first, then the values in order, zeros on refusal. include/hdf4.h declares them for C.
+use directory::Found;
+use directory::Opened;
+use directory::listing::Listed;
+ghost use mathlib.Core.Path.{_≡_};
+ghost use lib.ListN.{length};
+ghost use Rattle.directory.specs.Opening.{openOf};
+ghost use Rattle.directory.specs.Lookup.{findOf};
+ghost use Rattle.directory.specs.Listing.{listOf, tableAfter};
+ghost use Rattle.hdf4.specs.Answers.{openAnswer, findAnswer, listAnswer};
+
+#[repr(C)]
+pub struct OpenAnswer {
+    pub number: u64,
+    pub place: u64,
+    pub blocks: u64,
+    pub slots: u64,
+    pub live: u64,
+}
+
+#[repr(C)]
+pub struct FindAnswer {
+    pub number: u64,
+    pub place: u64,
+    pub slot: u64,
+}
+
+#[repr(C)]
+pub struct ListAnswer {
+    pub number: u64,
+    pub place: u64,
+    pub elements: u64,
+}
+
+#[no_mangle]
+pub extern "C" fn hdf4_open(image: &[u8]) -> OpenAnswer
+    ensures { λ r. ⌜ openAnswer r ≡ openOf (now (image .entry)) ⌝ }
+{
+    let opened = directory::open(image);
+    match opened {
+        Opened::Accepted(c) => OpenAnswer {
+            number: 0,
+            place: 0,
+            blocks: c.blocks as u64,
+            slots: c.slots as u64,
+            live: c.live as u64,
+        },
+        Opened::Refused(r) => OpenAnswer {
+            number: r.number as u64,
+            place: r.place as u64,
+            blocks: 0,
+            slots: 0,
+            live: 0,
+        },
+    }
+}
+
+#[no_mangle]
+pub extern "C" fn hdf4_find(image: &[u8], tag: u16, reference: u16) -> FindAnswer
+    ensures { λ r. ⌜ findAnswer r ≡ findOf (now (image .entry)) tag reference ⌝ }
+{
+    let found = directory::find(image, tag, reference);
+    match found {
+        Found::At(slot) => FindAnswer {
+            number: 0,
+            place: 0,
+            slot: slot as u64,
+        },
+        Found::Missing(r) => FindAnswer {
+            number: r.number as u64,
+            place: r.place as u64,
+            slot: 0,
+        },
+    }
+}
+
+#[no_mangle]
+pub extern "C" fn hdf4_list(image: &[u8], table: &mut [u32]) -> ListAnswer
+    ensures answer { λ r. ⌜ listAnswer r ≡ listOf (now (image .entry)) (length (now (table .entry))) ⌝ }
+    ensures lent { λ _. ⌜ now (table .exit) ≡ tableAfter (now (image .entry)) (now (table .entry)) ⌝ }
+{
+    let listed = directory::listing::list(image, table);
+    match listed {
+        Listed::Elements(n) => ListAnswer {
+            number: 0,
+            place: 0,
+            elements: n as u64,
+        },
+        Listed::Refused(r) => ListAnswer {
+            number: r.number as u64,
+            place: r.place as u64,
+            elements: 0,
+        },
+    }
+}

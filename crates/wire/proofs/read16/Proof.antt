@@ -1,0 +1,61 @@
+-- `wire::read16` meets its contract. Assumes nothing.
+use native.Mathlib.Omega.{arith}
+use Rattle.wire.proofs.Numbers
+use borrow.Author.Needs.{needs}
+use Rattle.wire.proofs.read16.Statement.{statement}
+use Rattle.wire.proofs.read16.Tie as tie
+
+returns : tie.Need-returns
+returns c = Numbers.reads-past 2 _ _ (c .if1 .taken)
+
+sub-if2 : tie.Need-sub-if2
+sub-if2 c = search needs
+
+read-at-end-requires : tie.Need-read-at-end-requires
+read-at-end-requires c κs = search needs
+
+returns-2 : tie.Need-returns-2
+returns-2 c = search needs
+
+shared-slice-read-wide : tie.Need-shared-slice-read-wide
+shared-slice-read-wide c = search needs
+
+wide-requires : tie.Need-wide-requires
+wide-requires c κs = search needs
+
+mul-result : tie.Need-mul-result
+mul-result c = search needs
+
+add-wide : tie.Need-add-wide
+add-wide c = search needs
+
+shared-slice-read-wide-2 : tie.Need-shared-slice-read-wide-2
+shared-slice-read-wide-2 c = search needs
+
+wide-requires-2 : tie.Need-wide-requires-2
+wide-requires-2 c κs = search needs
+
+add-result : tie.Need-add-result
+add-result c = search needs
+
+returns-3 : tie.Need-returns-3
+returns-3 c =
+    let a = c .before .before .before .before .before .before .before .args in
+    record { is = omega (arith, Numbers.be-two (a .s .now) (a .at)); small = omega arith }
+
+pub read16-spec : {M : Type 1} → statement M
+read16-spec =
+    tie.close
+    (tie.spec
+    returns
+    sub-if2
+    read-at-end-requires
+    returns-2
+    shared-slice-read-wide
+    wide-requires
+    mul-result
+    add-wide
+    shared-slice-read-wide-2
+    wide-requires-2
+    add-result
+    returns-3)

@@ -1,0 +1,108 @@
+// Numbers in bytes, most significant byte first: the only way in this library to read or write one.
+//
+// Every function answers on all inputs. A byte past the end reads as 0, and what would be written past the end is dropped.
+ghost use mathlib.Core.Path.{_≡_};
+ghost use Prim.Native.Nat.{_+_, _<_, _≤_};
+ghost use lib.ListN.{length};
+ghost use Rattle.wire.specs.Numbers.{bytes, put, Reads};
+
+fn wide(x: u8) -> usize
+    ensures { λ r. ⌜ (r ≡ x) × (r < 256) ⌝ }
+{
+    x as usize
+}
+
+// The number at a place from which the bytes may not reach as far as it is wide.
+fn read_at_end(s: &[u8], at: usize, width: usize) -> usize
+    requires { ⌜ (at ≤ length (now s)) × (width ≤ 8) ⌝ }
+    ensures { λ r. ⌜ Reads width (now (s .entry)) at r ⌝ }
+{
+    let mut n = 0;
+    let mut i = 0;
+    while i < width {
+        n = n * 256 + read8(s, at + i);
+        i += 1;
+    }
+    n
+}
+
+pub fn read8(s: &[u8], at: usize) -> usize
+    ensures { λ r. ⌜ Reads 1 (now (s .entry)) at r ⌝ }
+{
+    if s.len() <= at {
+        return 0;
+    }
+    wide(s[at])
+}
+
+pub fn read16(s: &[u8], at: usize) -> usize
+    ensures { λ r. ⌜ Reads 2 (now (s .entry)) at r ⌝ }
+{
+    if s.len() <= at {
+        return 0;
+    }
+    if s.len() - at < 2 {
+        return read_at_end(s, at, 2);
+    }
+    wide(s[at]) * 256 + wide(s[at + 1])
+}
+
+pub fn read32(s: &[u8], at: usize) -> usize
+    ensures { λ r. ⌜ Reads 4 (now (s .entry)) at r ⌝ }
+{
+    if s.len() <= at {
+        return 0;
+    }
+    if s.len() - at < 4 {
+        return read_at_end(s, at, 4);
+    }
+    wide(s[at]) * 16777216 + wide(s[at + 1]) * 65536 + wide(s[at + 2]) * 256 + wide(s[at + 3])
+}
+
+pub fn read64(s: &[u8], at: usize) -> usize
+    ensures { λ r. ⌜ Reads 8 (now (s .entry)) at r ⌝ }
+{
+    if s.len() <= at {
+        return 0;
+    }
+    read32(s, at) * 4294967296 + read32(s, at + 4)
+}
+
+pub fn write8(s: &mut [u8], at: usize, x: usize)
+    ensures { λ _. ⌜ now (s .exit) ≡ put (now (s .entry)) at (bytes 1 x) ⌝ }
+{
+    if s.len() <= at {
+        return;
+    }
+    s[at] = (x % 256) as u8;
+}
+
+pub fn write16(s: &mut [u8], at: usize, x: usize)
+    ensures { λ _. ⌜ now (s .exit) ≡ put (now (s .entry)) at (bytes 2 x) ⌝ }
+{
+    if s.len() <= at {
+        return;
+    }
+    write8(s, at, x / 256);
+    write8(s, at + 1, x);
+}
+
+pub fn write32(s: &mut [u8], at: usize, x: usize)
+    ensures { λ _. ⌜ now (s .exit) ≡ put (now (s .entry)) at (bytes 4 x) ⌝ }
+{
+    if s.len() <= at {
+        return;
+    }
+    write16(s, at, x / 65536);
+    write16(s, at + 2, x);
+}
+
+pub fn write64(s: &mut [u8], at: usize, x: usize)
+    ensures { λ _. ⌜ now (s .exit) ≡ put (now (s .entry)) at (bytes 8 x) ⌝ }
+{
+    if s.len() <= at {
+        return;
+    }
+    write32(s, at, x / 4294967296);
+    write32(s, at + 4, x);
+}

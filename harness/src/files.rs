@@ -1,0 +1,83 @@
+//! Real files: each must be answered alike by library and reader, and as the table of expected answers says.
+
+use crate::compare::directory::expected_open;
+use crate::compare::{compare, Pairs};
+use crate::ffi::Opened;
+use crate::random::Random;
+use crate::reader::{self, base_tag};
+use crate::tally::Tally;
+use std::collections::BTreeMap;
+use std::fs;
+use std::path::{Path, PathBuf};
+
+const FOLDER: &str = concat!(env!("CARGO_MANIFEST_DIR"), "/files");
+
+/// Compares every file of the folder; answers how many there are.
+pub fn compare_all(random: &mut Random, tally: &mut Tally) -> Result<usize, String> {
+    let mut expected = expected_answers()?;
+    let files = hdf_files()?;
+    for path in &files {
+        let name = name_of(path);
+        let answer = compare_one(path, random, tally)?;
+        let Some(line) = expected.remove(&name) else { return Err(format!("{name} is not in the table")) };
+        if line != numbers(&answer) {
+            return Err(format!("{name}: answered {}, expected {line}", numbers(&answer)));
+        }
+    }
+    match expected.into_keys().next() {
+        Some(name) => Err(format!("{name} is in the table, but there is no such file")),
+        None => Ok(files.len()),
+    }
+}
+
+/// Compares one file and prints what is in it.
+pub fn show(path: &Path, random: &mut Random, tally: &mut Tally) -> Result<(), String> {
+    let answer = compare_one(path, random, tally)?;
+    println!("{} {}", name_of(path), numbers(&answer));
+    if let Ok(directory) = reader::open(&read(path)?) {
+        for slot in directory.live() {
+            let base = base_tag(slot.tag);
+            let mark = if base == slot.tag { "" } else { " extended" };
+            println!("  {}: {base}/{} {} bytes at {}{mark}", slot.place, slot.reference, slot.length, slot.offset);
+        }
+    }
+    Ok(())
+}
+
+/// Compares all calls on one file, each pair in it looked up. Answers what opening it answers.
+fn compare_one(path: &Path, random: &mut Random, tally: &mut Tally) -> Result<Opened, String> {
+    let image = read(path)?;
+    match compare(&image, Pairs::All, random, tally) {
+        Ok(()) => Ok(expected_open(&reader::open(&image))),
+        Err(difference) => Err(format!("{}\n{difference}", path.display())),
+    }
+}
+
+/// The table of expected answers: a name, then number, place, blocks, slots and live slots.
+fn expected_answers() -> Result<BTreeMap<String, String>, String> {
+    let path = Path::new(FOLDER).join("expected.txt");
+    let text = String::from_utf8(read(&path)?).map_err(|fault| fault.to_string())?;
+    let lines = text.lines().filter(|line| !line.starts_with('#'));
+    Ok(lines.filter_map(|line| line.split_once(' ')).map(|(name, line)| (name.into(), line.into())).collect())
+}
+
+fn hdf_files() -> Result<Vec<PathBuf>, String> {
+    let entries = fs::read_dir(FOLDER).map_err(|fault| format!("{FOLDER}: {fault}"))?;
+    let paths = entries.filter_map(|entry| entry.ok()).map(|entry| entry.path());
+    let mut files: Vec<PathBuf> = paths.filter(|path| path.extension().is_some_and(|end| end == "hdf")).collect();
+    files.sort();
+    Ok(files)
+}
+
+fn numbers(answer: &Opened) -> String {
+    let Opened { number, place, blocks, slots, live } = answer;
+    format!("{number} {place} {blocks} {slots} {live}")
+}
+
+fn name_of(path: &Path) -> String {
+    path.file_name().map(|name| name.to_string_lossy().into_owned()).unwrap_or_default()
+}
+
+fn read(path: &Path) -> Result<Vec<u8>, String> {
+    fs::read(path).map_err(|fault| format!("{}: {fault}", path.display()))
+}

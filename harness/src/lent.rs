@@ -1,0 +1,50 @@
+//! Memory lent to the library, watched for bytes that change where none may.
+
+use std::hint::black_box;
+use std::ops::Range;
+
+const EDGE: usize = 32;
+const EDGE_BYTE: u8 = 0xa5;
+const WATCHED_END: usize = 4096;
+
+/// An image in the middle of a memory, with the bytes that must stay as they are.
+pub struct Lent<'a> {
+    memory: &'a [u8],
+    image: Range<usize>,
+    watched: Vec<(usize, Vec<u8>)>,
+}
+
+/// A copy of an image with a few bytes before and after it, and where the image lies in it.
+pub fn surround(image: &[u8], shift: usize) -> (Vec<u8>, Range<usize>) {
+    let start = EDGE + shift;
+    let mut memory = vec![EDGE_BYTE; start];
+    memory.extend_from_slice(image);
+    let end = memory.len();
+    memory.resize(end + EDGE, EDGE_BYTE);
+    (memory, start..end)
+}
+
+impl<'a> Lent<'a> {
+    /// Watches every byte of the memory.
+    pub fn watch_all(memory: &'a [u8], image: Range<usize>) -> Lent<'a> {
+        let watched = vec![(0, memory.to_vec())];
+        Lent { memory, image, watched }
+    }
+
+    /// Watches both ends of a memory too large to copy.
+    pub fn watch_ends(memory: &'a [u8], image: Range<usize>) -> Lent<'a> {
+        let last = image.end.saturating_sub(WATCHED_END);
+        let part = |start: usize, end: usize| (start, memory[start..end].to_vec());
+        let watched = vec![part(0, WATCHED_END.min(memory.len())), part(last, image.end)];
+        Lent { memory, image, watched }
+    }
+
+    pub fn image(&self) -> &'a [u8] {
+        &self.memory[self.image.clone()]
+    }
+
+    pub fn is_unchanged(&self) -> bool {
+        let memory = black_box(self.memory);
+        self.watched.iter().all(|(start, bytes)| memory[*start..start + bytes.len()] == bytes[..])
+    }
+}

@@ -1,0 +1,139 @@
+//! Holds the library against an independent reader: on generated files, on images of the greatest length, on the marked
+//! cases of the written rules and on real files.
+//!
+//!     harness [--seed N] [--files N]    everything; stops at the first difference
+//!     harness [--seed N] --index N      one generated file again, with its bytes
+//!     harness --file PATH               one file
+
+mod cases;
+mod compare;
+mod ffi;
+mod files;
+mod images;
+mod lengths;
+mod lent;
+mod random;
+mod reader;
+mod tally;
+
+use compare::{compare, Pairs};
+use images::Image;
+use random::Random;
+use std::path::PathBuf;
+use std::process::ExitCode;
+use std::time::Instant;
+use tally::Tally;
+
+const DEFAULT_SEED: u64 = 19_930_401;
+const DEFAULT_FILES: u64 = 250_000;
+
+/// What the arguments ask for.
+struct Options {
+    seed: u64,
+    files: u64,
+    index: Option<u64>,
+    file: Option<PathBuf>,
+}
+
+fn main() -> ExitCode {
+    let outcome = options().and_then(|options| run(&options));
+    match outcome {
+        Ok(()) => ExitCode::SUCCESS,
+        Err(fault) => {
+            eprintln!("{fault}");
+            ExitCode::FAILURE
+        }
+    }
+}
+
+fn options() -> Result<Options, String> {
+    let mut options = Options { seed: DEFAULT_SEED, files: DEFAULT_FILES, index: None, file: None };
+    let mut arguments = std::env::args().skip(1);
+    while let Some(name) = arguments.next() {
+        let value = arguments.next().ok_or(format!("{name}: a value is missing"))?;
+        match name.as_str() {
+            "--seed" => options.seed = number(&value)?,
+            "--files" => options.files = number(&value)?,
+            "--index" => options.index = Some(number(&value)?),
+            "--file" => options.file = Some(value.into()),
+            _ => return Err(format!("{name}: no such option")),
+        }
+    }
+    Ok(options)
+}
+
+fn number(value: &str) -> Result<u64, String> {
+    value.parse().map_err(|_| format!("{value}: not a number"))
+}
+
+fn run(options: &Options) -> Result<(), String> {
+    let mut tally = Tally::default();
+    let mut random = Random::new(options.seed, u64::MAX);
+    if let Some(path) = &options.file {
+        return files::show(path, &mut random, &mut tally);
+    }
+    if let Some(index) = options.index {
+        return show_generated(options.seed, index, &mut tally);
+    }
+    run_all(options, &mut random, &mut tally)
+}
+
+fn run_all(options: &Options, random: &mut Random, tally: &mut Tally) -> Result<(), String> {
+    let start = Instant::now();
+    for index in 0..options.files {
+        compare_generated(options.seed, index, tally)?;
+    }
+    println!("{} generated files, seed {}, {:.1} s", options.files, options.seed, start.elapsed().as_secs_f64());
+
+    let touched = lengths::compare_lengths(random, tally)?;
+    let touched = touched.map_or("unknown".into(), |pages| pages.to_string());
+    println!("images of the greatest length and above, pages touched: {touched}");
+
+    let cases = cases::cases();
+    for case in &cases {
+        cases::check(case)?;
+        compare(&case.image, Pairs::All, random, tally).map_err(|difference| difference.to_string())?;
+    }
+    println!("{} marked cases", cases.len());
+
+    println!("{} real files", files::compare_all(random, tally)?);
+    report(tally)
+}
+
+/// Prints the table of answers, and complains of a number that was never reached.
+fn report(tally: &Tally) -> Result<(), String> {
+    println!("{} files and {} calls compared, no difference", tally.files, tally.calls());
+    print!("{tally}");
+    match tally.never_reached().as_slice() {
+        [] => Ok(()),
+        numbers => Err(format!("never reached: {numbers:?}")),
+    }
+}
+
+fn compare_generated(seed: u64, index: u64, tally: &mut Tally) -> Result<(), String> {
+    let mut random = Random::new(seed, index);
+    let image = images::image(&mut random);
+    compare(&image.bytes, Pairs::Some, &mut random, tally)
+        .map_err(|difference| format!("{difference}\n{}", describe(seed, index, &image)))
+}
+
+fn show_generated(seed: u64, index: u64, tally: &mut Tally) -> Result<(), String> {
+    let image = images::image(&mut Random::new(seed, index));
+    println!("{}", describe(seed, index, &image));
+    compare_generated(seed, index, tally)?;
+    print!("{tally}");
+    Ok(())
+}
+
+fn describe(seed: u64, index: u64, image: &Image) -> String {
+    let Image { kind, bytes } = image;
+    format!("seed {seed} index {index}: {kind}, {} bytes\n{}", bytes.len(), hex_dump(bytes))
+}
+
+fn hex_dump(bytes: &[u8]) -> String {
+    let line = |(index, part): (usize, &[u8])| {
+        let digits: Vec<String> = part.iter().map(|byte| format!("{byte:02x}")).collect();
+        format!("{:8} {}\n", 16 * index, digits.join(" "))
+    };
+    bytes.chunks(16).enumerate().map(line).collect()
+}

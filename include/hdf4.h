@@ -1,0 +1,62 @@
+/* The C interface of the library. Link libhdf4.a.
+ *
+ * Every function returns a struct of uint64_t: number and place first (0 and 0 where the call is granted), then its values in
+ * order, zeros where it is refused. A slice passes as a pointer and a length, in entries of its type; a null pointer is not allowed,
+ * also with length 0. Nothing is written where a call is refused.
+ *
+ * The numbers of refusals are named below. A place counts bytes from the start of the image.
+ */
+#ifndef HDF4_H
+#define HDF4_H
+
+#include <stddef.h>
+#include <stdint.h>
+
+#ifdef __cplusplus
+extern "C" {
+#endif
+
+enum hdf4_refusal {
+    HDF4_TOO_LONG = 1,      /* the image is longer than the limit or than the buffer, or an edit would pass the limit */
+    HDF4_NOT_HDF = 2,       /* shorter than 4 bytes, or other first bytes */
+    HDF4_DIR_CUT = 3,       /* a block is not wholly inside */
+    HDF4_DIR_LOOP = 4,      /* the next block is one already walked */
+    HDF4_DIR_OVER = 5,      /* a block shares a byte with the header or an earlier block */
+    HDF4_DIR_BIG = 6,       /* a 257th block or a 4,097th slot */
+    HDF4_BAD_TAG = 7,       /* a tag that no live slot may have, or that no edit takes */
+    HDF4_OUTSIDE = 8,       /* an element ends past the image */
+    HDF4_ON_DIRECTORY = 9,  /* an element touches the header or a block */
+    HDF4_TWICE = 10,        /* two live slots have the same base tag and reference */
+    HDF4_ABSENT = 11,       /* no live slot has that base tag and reference */
+    HDF4_SMALL = 14         /* the lent output is too short */
+};
+
+typedef struct {
+    uint64_t number, place;
+    uint64_t blocks, slots, live;
+} hdf4_open_answer;
+
+typedef struct {
+    uint64_t number, place;
+    uint64_t slot; /* the place of the descriptor */
+} hdf4_find_answer;
+
+typedef struct {
+    uint64_t number, place;
+    uint64_t elements;
+} hdf4_list_answer;
+
+/* Opens an image: how many blocks, slots and live slots its directory has. */
+hdf4_open_answer hdf4_open(const uint8_t *image, size_t n);
+
+/* Finds the live slot that has the base tag of a tag and a reference. */
+hdf4_find_answer hdf4_find(const uint8_t *image, size_t n, uint16_t tag, uint16_t ref);
+
+/* Lists the live slots in chain order to the front of a lent table: tag, reference, offset and length of each, as they are stored. */
+hdf4_list_answer hdf4_list(const uint8_t *image, size_t n, uint32_t *table, size_t room);
+
+#ifdef __cplusplus
+}
+#endif
+
+#endif
