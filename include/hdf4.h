@@ -28,7 +28,11 @@ enum hdf4_refusal {
     HDF4_ON_DIRECTORY = 9,  /* an element touches the header or a block */
     HDF4_TWICE = 10,        /* two live slots have the same base tag and reference */
     HDF4_ABSENT = 11,       /* no live slot has that base tag and reference */
-    HDF4_SMALL = 14         /* the lent output is too short */
+    HDF4_SMALL = 14,        /* the lent output is too short */
+    HDF4_PRESENT = 18,      /* an element with that tag and reference is there already */
+    HDF4_NO_ROOM = 19,      /* the buffer is shorter than the new image */
+    HDF4_NO_EDIT = 20,      /* the image carries no trailer, so there is nothing to undo */
+    HDF4_BAD_TRAILER = 21   /* the trailer breaks a rule; the place is the trailer's */
 };
 
 typedef struct {
@@ -46,6 +50,11 @@ typedef struct {
     uint64_t elements;
 } hdf4_list_answer;
 
+typedef struct {
+    uint64_t number, place;
+    uint64_t length; /* of the new image */
+} hdf4_edit_answer;
+
 /* Opens an image: how many blocks, slots and live slots its directory has. */
 hdf4_open_answer hdf4_open(const uint8_t *image, size_t n);
 
@@ -54,6 +63,26 @@ hdf4_find_answer hdf4_find(const uint8_t *image, size_t n, uint16_t tag, uint16_
 
 /* Lists the live slots in chain order to the front of a lent table: tag, reference, offset and length of each, as they are stored. */
 hdf4_list_answer hdf4_list(const uint8_t *image, size_t n, uint32_t *table, size_t room);
+
+/* Edits and undo.
+ *
+ * The image is the first n bytes of a lent buffer of `capacity` bytes; n over `capacity` is refused. The new image stands at the front of
+ * the buffer, and the bytes behind its end stay as they were. An edit changes one descriptor, or links one new block, and appends the data
+ * and a trailer that says how to undo it: the image grows by `size` bytes and at most 230 more. The data may not lie in the buffer. The tag
+ * is not 0, 1 or 107, and not of the extended form, 16384 to 32767.
+ */
+
+/* Adds an element with `size` bytes of data, in the first free slot or in a new block. */
+hdf4_edit_answer hdf4_add(uint8_t *buffer, size_t capacity, uint64_t n, uint16_t tag, uint16_t ref, const uint8_t *data, size_t size);
+
+/* Gives an element other data. */
+hdf4_edit_answer hdf4_replace(uint8_t *buffer, size_t capacity, uint64_t n, uint16_t tag, uint16_t ref, const uint8_t *data, size_t size);
+
+/* Removes an element. */
+hdf4_edit_answer hdf4_remove(uint8_t *buffer, size_t capacity, uint64_t n, uint16_t tag, uint16_t ref);
+
+/* Undoes the last edit that is not undone yet: the image is as before it, byte for byte. */
+hdf4_edit_answer hdf4_undo(uint8_t *buffer, size_t capacity, uint64_t n);
 
 #ifdef __cplusplus
 }

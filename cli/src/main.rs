@@ -1,24 +1,40 @@
-//! The command line: thin over the library. It reads files and prints.
+//! The command line: thin over the library. It reads files, writes them back and prints.
+
+mod edit;
+mod store;
 
 use std::env;
+use std::ffi::{OsStr, OsString};
 use std::fs;
 use std::io::{self, Write};
+use std::path::Path;
 use std::process::ExitCode;
 
 const HELP: &str = "\
 usage: hdf4 list FILE
+       hdf4 add FILE TAG REF DATAFILE
+       hdf4 replace FILE TAG REF DATAFILE
+       hdf4 remove FILE TAG REF
+       hdf4 undo FILE
 
-  list FILE    the elements of a file: tag, reference, offset and length of each, in the order of its directory
+  list       the elements of a file: tag, reference, offset and length of each, in the order of its directory
+  add        adds an element with the bytes of DATAFILE
+  replace    gives an element the bytes of DATAFILE
+  remove     removes an element
+  undo       undoes the last edit that is not undone yet: the file is as before it, byte for byte
+
+TAG and REF are numbers from 0 to 65535, decimal or with 0x before them. DATAFILE - is standard input. A crash in the middle of
+an edit leaves the old file or the new one.
 ";
 
-fn read(path: &str) -> Result<Vec<u8>, String> {
-    fs::read(path).map_err(|e| format!("{path}: {e}"))
+fn read(path: &Path) -> Result<Vec<u8>, String> {
+    fs::read(path).map_err(|e| format!("{}: {e}", path.display()))
 }
 
 /// The elements of a file, a line each, with the counts of its directory above them.
-fn list(path: &str) -> Result<String, String> {
+fn list(path: &Path) -> Result<String, String> {
     let image = read(path)?;
-    let refused = |e: hdf4::Error| format!("{path}: {e}");
+    let refused = |e: hdf4::Error| format!("{}: {e}", path.display());
     let counts = hdf4::open(&image).map_err(refused)?;
     let mut text = format!("{} blocks, {} slots, {} elements\n", counts.blocks, counts.slots, counts.live);
     for e in hdf4::list(&image).map_err(refused)? {
@@ -28,17 +44,22 @@ fn list(path: &str) -> Result<String, String> {
     Ok(text)
 }
 
-fn run(words: &[&str]) -> Result<String, String> {
-    match words {
-        ["list", path] => list(path),
-        ["--help"] | ["-h"] => Ok(HELP.to_string()),
+fn run(words: &[OsString]) -> Result<String, String> {
+    let command = words.first().and_then(|word| word.to_str()).unwrap_or("");
+    let words: Vec<&OsStr> = words.iter().skip(1).map(OsString::as_os_str).collect();
+    match (command, words.as_slice()) {
+        ("list", [path]) => list(Path::new(path)),
+        ("add", [path, tag, reference, data]) => edit::add(Path::new(path), edit::pair(tag, reference)?, data),
+        ("replace", [path, tag, reference, data]) => edit::replace(Path::new(path), edit::pair(tag, reference)?, data),
+        ("remove", [path, tag, reference]) => edit::remove(Path::new(path), edit::pair(tag, reference)?),
+        ("undo", [path]) => edit::undo(Path::new(path)),
+        ("--help" | "-h", []) => Ok(HELP.to_string()),
         _ => Err(format!("no such command\n{HELP}")),
     }
 }
 
 fn main() -> ExitCode {
-    let words: Vec<String> = env::args().skip(1).collect();
-    let words: Vec<&str> = words.iter().map(String::as_str).collect();
+    let words: Vec<OsString> = env::args_os().skip(1).collect();
     match run(&words) {
         Ok(text) => match io::stdout().write_all(text.as_bytes()) {
             Ok(()) => ExitCode::SUCCESS,

@@ -1,4 +1,7 @@
-//! The marked cases 1 to 11 of the written rules: both the library and the reader must give the numbers written there.
+//! The marked cases of the written rules. In cases 1 to 11 both the library and the reader must give the numbers written
+//! there.
+
+pub mod edits;
 
 use crate::compare::directory::expected_open;
 use crate::ffi::{self, Opened};

@@ -1,6 +1,7 @@
 //! Compares the library's answers with the reader's. Each group of calls has a module of its own below this one.
 
 pub mod directory;
+pub mod edits;
 
 use crate::ffi::Answer;
 use crate::lent::{surround, Lent};
@@ -9,13 +10,14 @@ use crate::reader::{self, Directory, Refusal};
 use crate::tally::{Call, Tally};
 use std::fmt;
 
-/// A call on which library and reader differ, or that altered what it may not.
+/// A call on which the library differs from reader, editor or history, or that altered what it may not.
 #[derive(Debug)]
 pub struct Difference {
     call: Call,
     arguments: String,
     library: String,
-    reader: String,
+    judge: &'static str,
+    expected: String,
 }
 
 pub type Outcome = Result<(), Difference>;
@@ -69,15 +71,15 @@ impl Trial<'_> {
     }
 }
 
-/// The difference of one call, both sides in words.
+/// The difference of one call from the reader, both sides in words.
 pub fn differ(call: Call, arguments: &[usize], library: String, reader: String) -> Outcome {
-    Err(Difference { call, arguments: format!("{arguments:?}"), library, reader })
+    Err(Difference { call, arguments: format!("{arguments:?}"), library, judge: "reader", expected: reader })
 }
 
 impl fmt::Display for Difference {
     fn fmt(&self, out: &mut fmt::Formatter) -> fmt::Result {
         writeln!(out, "call    {:?} {}", self.call, self.arguments)?;
         writeln!(out, "library {}", self.library)?;
-        write!(out, "reader  {}", self.reader)
+        write!(out, "{:7} {}", self.judge, self.expected)
     }
 }

@@ -48,10 +48,35 @@ answer! {
     Listed { elements }
 }
 
+answer! {
+    /// The answer of an edit or an undo: the length of the new file.
+    Edited { length }
+}
+
 extern "C" {
     fn hdf4_open(image: *const u8, n: usize) -> Opened;
     fn hdf4_find(image: *const u8, n: usize, tag: u16, reference: u16) -> Found;
     fn hdf4_list(image: *const u8, n: usize, list: *mut u32, room: usize) -> Listed;
+    fn hdf4_add(
+        buffer: *mut u8,
+        capacity: usize,
+        n: u64,
+        tag: u16,
+        reference: u16,
+        data: *const u8,
+        size: usize,
+    ) -> Edited;
+    fn hdf4_replace(
+        buffer: *mut u8,
+        capacity: usize,
+        n: u64,
+        tag: u16,
+        reference: u16,
+        data: *const u8,
+        size: usize,
+    ) -> Edited;
+    fn hdf4_remove(buffer: *mut u8, capacity: usize, n: u64, tag: u16, reference: u16) -> Edited;
+    fn hdf4_undo(buffer: *mut u8, capacity: usize, n: u64) -> Edited;
 }
 
 // A slice's pointer is never null, also where the slice is empty.
@@ -69,4 +94,24 @@ pub fn find(image: &[u8], tag: u16, reference: u16) -> Found {
 /// Writes tag, reference, offset and length of each live slot, in chain order, to the front of `list`.
 pub fn list(image: &[u8], list: &mut [u32]) -> Listed {
     unsafe { hdf4_list(image.as_ptr(), image.len(), list.as_mut_ptr(), list.len()) }
+}
+
+/// Adds an element to the file in the first `n` bytes of a buffer.
+pub fn add(buffer: &mut [u8], n: u64, tag: u16, reference: u16, data: &[u8]) -> Edited {
+    unsafe { hdf4_add(buffer.as_mut_ptr(), buffer.len(), n, tag, reference, data.as_ptr(), data.len()) }
+}
+
+/// Gives an element of the file in the first `n` bytes of a buffer other data.
+pub fn replace(buffer: &mut [u8], n: u64, tag: u16, reference: u16, data: &[u8]) -> Edited {
+    unsafe { hdf4_replace(buffer.as_mut_ptr(), buffer.len(), n, tag, reference, data.as_ptr(), data.len()) }
+}
+
+/// Removes an element from the file in the first `n` bytes of a buffer.
+pub fn remove(buffer: &mut [u8], n: u64, tag: u16, reference: u16) -> Edited {
+    unsafe { hdf4_remove(buffer.as_mut_ptr(), buffer.len(), n, tag, reference) }
+}
+
+/// Undoes the last edit of the file in the first `n` bytes of a buffer.
+pub fn undo(buffer: &mut [u8], n: u64) -> Edited {
+    unsafe { hdf4_undo(buffer.as_mut_ptr(), buffer.len(), n) }
 }

@@ -1,10 +1,12 @@
-//! Real files: each must be answered alike by library and reader, and as the table of expected answers says.
+//! Real files: each must be answered alike by library and reader, and as the table of expected answers says. Those that open
+//! are edited, and the edits undone.
 
 use crate::compare::directory::expected_open;
 use crate::compare::{compare, Pairs};
 use crate::ffi::Opened;
 use crate::random::Random;
 use crate::reader::{self, base_tag};
+use crate::sequences::round_trip::round_trip;
 use crate::tally::Tally;
 use std::collections::BTreeMap;
 use std::fs;
@@ -47,10 +49,10 @@ pub fn show(path: &Path, random: &mut Random, tally: &mut Tally) -> Result<(), S
 /// Compares all calls on one file, each pair in it looked up. Answers what opening it answers.
 fn compare_one(path: &Path, random: &mut Random, tally: &mut Tally) -> Result<Opened, String> {
     let image = read(path)?;
-    match compare(&image, Pairs::All, random, tally) {
-        Ok(()) => Ok(expected_open(&reader::open(&image))),
-        Err(difference) => Err(format!("{}\n{difference}", path.display())),
-    }
+    let outcome = compare(&image, Pairs::All, random, tally).map_err(|difference| difference.to_string());
+    let outcome = outcome.and_then(|()| round_trip(&image, random, tally));
+    outcome.map_err(|fault| format!("{}\n{fault}", path.display()))?;
+    Ok(expected_open(&reader::open(&image)))
 }
 
 /// The table of expected answers: a name, then number, place, blocks, slots and live slots.

@@ -1,5 +1,6 @@
 //! Files to try: random bytes, well-formed files, and files with something wrong or at a limit. Most are small.
 
+pub mod accepted;
 mod damage;
 mod draft;
 mod limits;

@@ -1,6 +1,8 @@
 //! Images around the greatest length. One memory of zeros serves all of them. The system makes a page of it only when it is
 //! first read or written, so the run stays small as long as nobody goes through the whole image.
 
+mod edits;
+
 use crate::compare::{compare_huge, Difference};
 use crate::random::Random;
 use crate::reader::{FIRST_BYTES, MOST_BYTES};
@@ -11,13 +13,16 @@ const MOST: usize = MOST_BYTES as usize;
 const MEMORY: usize = (1 << 32) + 64;
 const MOST_PAGE_FAULTS: u64 = 256;
 
-/// Compares library and reader on images of the greatest length and above. Answers how many pages were touched, if known.
+/// Compares the library on images of the greatest length and above. Answers how many pages were touched, if known.
 pub fn compare_lengths(random: &mut Random, tally: &mut Tally) -> Result<Option<u64>, String> {
     let mut memory = vec![0; MEMORY];
     memory[..4].copy_from_slice(&FIRST_BYTES);
     let before = page_faults();
     too_long(&memory, random, tally).map_err(|difference| difference.to_string())?;
     greatest(&mut memory, random, tally).map_err(|difference| difference.to_string())?;
+    edits::compare_long_files(&mut memory, tally)?;
+    drop(memory);
+    edits::compare_long_data(tally)?;
     let touched = page_faults().zip(before).map(|(after, before)| after - before);
     match touched {
         Some(pages) if pages > MOST_PAGE_FAULTS => Err(format!("{pages} pages of a long image were touched")),

@@ -1,19 +1,23 @@
-//! Holds the library against an independent reader: on generated files, on images of the greatest length, on the marked
-//! cases of the written rules and on real files.
+//! Holds the library against an independent reader and editor and a history of files: on generated files, on random sequences
+//! of edits, on images of the greatest length, on the marked cases of the written rules and on real files.
 //!
-//!     harness [--seed N] [--files N]    everything; stops at the first difference
-//!     harness [--seed N] --index N      one generated file again, with its bytes
-//!     harness --file PATH               one file
+//!     harness [--seed N] [--files N] [--sequences N]    everything; stops at the first difference
+//!     harness [--seed N] --index N                      one generated file again, with its bytes
+//!     harness [--seed N] --sequence N                   one sequence again, with its calls
+//!     harness --file PATH                               one file
 
 mod cases;
 mod compare;
+mod editor;
 mod ffi;
 mod files;
+mod history;
 mod images;
 mod lengths;
 mod lent;
 mod random;
 mod reader;
+mod sequences;
 mod tally;
 
 use compare::{compare, Pairs};
@@ -26,12 +30,15 @@ use tally::Tally;
 
 const DEFAULT_SEED: u64 = 19_930_401;
 const DEFAULT_FILES: u64 = 250_000;
+const DEFAULT_SEQUENCES: u64 = 30_000;
 
 /// What the arguments ask for.
 struct Options {
     seed: u64,
     files: u64,
+    sequences: u64,
     index: Option<u64>,
+    sequence: Option<u64>,
     file: Option<PathBuf>,
 }
 
@@ -47,14 +54,23 @@ fn main() -> ExitCode {
 }
 
 fn options() -> Result<Options, String> {
-    let mut options = Options { seed: DEFAULT_SEED, files: DEFAULT_FILES, index: None, file: None };
+    let mut options = Options {
+        seed: DEFAULT_SEED,
+        files: DEFAULT_FILES,
+        sequences: DEFAULT_SEQUENCES,
+        index: None,
+        sequence: None,
+        file: None,
+    };
     let mut arguments = std::env::args().skip(1);
     while let Some(name) = arguments.next() {
         let value = arguments.next().ok_or(format!("{name}: a value is missing"))?;
         match name.as_str() {
             "--seed" => options.seed = number(&value)?,
             "--files" => options.files = number(&value)?,
+            "--sequences" => options.sequences = number(&value)?,
             "--index" => options.index = Some(number(&value)?),
+            "--sequence" => options.sequence = Some(number(&value)?),
             "--file" => options.file = Some(value.into()),
             _ => return Err(format!("{name}: no such option")),
         }
@@ -75,15 +91,14 @@ fn run(options: &Options) -> Result<(), String> {
     if let Some(index) = options.index {
         return show_generated(options.seed, index, &mut tally);
     }
+    if let Some(index) = options.sequence {
+        return sequences::show(options.seed, index, &mut tally);
+    }
     run_all(options, &mut random, &mut tally)
 }
 
 fn run_all(options: &Options, random: &mut Random, tally: &mut Tally) -> Result<(), String> {
-    let start = Instant::now();
-    for index in 0..options.files {
-        compare_generated(options.seed, index, tally)?;
-    }
-    println!("{} generated files, seed {}, {:.1} s", options.files, options.seed, start.elapsed().as_secs_f64());
+    run_generated(options, tally)?;
 
     let touched = lengths::compare_lengths(random, tally)?;
     let touched = touched.map_or("unknown".into(), |pages| pages.to_string());
@@ -94,19 +109,38 @@ fn run_all(options: &Options, random: &mut Random, tally: &mut Tally) -> Result<
         cases::check(case)?;
         compare(&case.image, Pairs::All, random, tally).map_err(|difference| difference.to_string())?;
     }
-    println!("{} marked cases", cases.len());
+    println!("{} marked cases", cases.len() + cases::edits::check(tally)?);
 
     println!("{} real files", files::compare_all(random, tally)?);
     report(tally)
 }
 
+/// The generated files and sequences.
+fn run_generated(options: &Options, tally: &mut Tally) -> Result<(), String> {
+    let Options { seed, files, sequences, .. } = options;
+    let start = Instant::now();
+    for index in 0..*files {
+        compare_generated(*seed, index, tally)?;
+    }
+    println!("{files} generated files, seed {seed}, {:.1} s", start.elapsed().as_secs_f64());
+
+    let start = Instant::now();
+    for index in 0..*sequences {
+        sequences::compare(*seed, index, tally)?;
+    }
+    println!("{sequences} sequences of edits, seed {seed}, {:.1} s", start.elapsed().as_secs_f64());
+    Ok(())
+}
+
 /// Prints the table of answers, and complains of a number that was never reached.
 fn report(tally: &Tally) -> Result<(), String> {
-    println!("{} files and {} calls compared, no difference", tally.files, tally.calls());
+    let Tally { files, sequences, undone_starts, .. } = tally;
+    println!("{files} files, {sequences} sequences and {} calls compared, no difference", tally.calls());
+    println!("{undone_starts} undos of edits before the sequence");
     print!("{tally}");
     match tally.never_reached().as_slice() {
         [] => Ok(()),
-        numbers => Err(format!("never reached: {numbers:?}")),
+        missing => Err(format!("never reached by {}", missing.join(", "))),
     }
 }
 

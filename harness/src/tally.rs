@@ -1,23 +1,54 @@
-//! How many files and calls were compared, and how often each answer number was reached.
+//! How many files and calls were compared, and how often each answer number and each rule was reached.
 
-use crate::reader::{ABSENT, SMALL};
+use crate::editor::{Reason, BAD_TRAILER, NO_EDIT, NO_ROOM, PRESENT};
+use crate::reader::{ABSENT, SMALL, TWICE};
 use std::fmt;
 
-/// The calls of the library. A further call gets a further case here and in `ALL`.
+/// The calls of the library. A further call gets a further case here, in `CALLS` and in `can_answer`.
 #[derive(Clone, Copy, Debug, PartialEq, Eq)]
 pub enum Call {
     Open,
     List,
     Find,
+    Add,
+    Replace,
+    Remove,
+    Undo,
 }
 
-const ALL: [Call; 3] = [Call::Open, Call::List, Call::Find];
+const CALLS: [Call; 7] = [Call::Open, Call::List, Call::Find, Call::Add, Call::Replace, Call::Remove, Call::Undo];
+const EDITS: [Call; 4] = [Call::Add, Call::Replace, Call::Remove, Call::Undo];
 const NUMBERS: usize = 31;
+
+/// The rules that refuse an edit or an undo, with their names in the table.
+const REASONS: [(Reason, &str); 17] = [
+    (Reason::Length, "1 length given"),
+    (Reason::Limit, "1 new length"),
+    (Reason::Opening, "1 to 10 opening"),
+    (Reason::Blocks, "6 blocks"),
+    (Reason::Slots, "6 slots"),
+    (Reason::Tag, "7 tag"),
+    (Reason::Absent, "11 absent"),
+    (Reason::Present, "18 present"),
+    (Reason::Room, "19 room"),
+    (Reason::NoTrailer, "20 no trailer"),
+    (Reason::LengthBefore, "21 length before"),
+    (Reason::BytesAltered, "21 bytes altered"),
+    (Reason::PlaceAltered, "21 place"),
+    (Reason::PastLengthBefore, "21 place past length"),
+    (Reason::Padding, "21 padding"),
+    (Reason::Previous, "21 previous"),
+    (Reason::Restored, "21 restored image"),
+];
 
 #[derive(Default)]
 pub struct Tally {
     pub files: u64,
-    reached: [[u64; NUMBERS]; ALL.len()],
+    pub sequences: u64,
+    /// Granted undos of an edit that was made before the sequence.
+    pub undone_starts: u64,
+    reached: [[u64; NUMBERS]; CALLS.len()],
+    broken: [[u64; REASONS.len()]; CALLS.len()],
 }
 
 impl Call {
@@ -26,6 +57,34 @@ impl Call {
             Call::Open => "open",
             Call::List => "list",
             Call::Find => "find",
+            Call::Add => "add",
+            Call::Replace => "replace",
+            Call::Remove => "remove",
+            Call::Undo => "undo",
+        }
+    }
+
+    /// Whether some input makes the call answer this number.
+    fn can_answer(self, number: u64) -> bool {
+        let others: &[u64] = match self {
+            Call::Open => &[],
+            Call::List => &[SMALL],
+            Call::Find => &[ABSENT],
+            Call::Add => &[PRESENT, NO_ROOM],
+            Call::Replace | Call::Remove => &[ABSENT, NO_ROOM],
+            Call::Undo => &[NO_EDIT, BAD_TRAILER],
+        };
+        number <= TWICE || others.contains(&number)
+    }
+
+    /// Whether this rule can refuse the call.
+    fn can_break(self, reason: Reason) -> bool {
+        match reason {
+            Reason::Length | Reason::Opening => EDITS.contains(&self),
+            Reason::Tag | Reason::Limit | Reason::Room => EDITS.contains(&self) && self != Call::Undo,
+            Reason::Present | Reason::Blocks | Reason::Slots => self == Call::Add,
+            Reason::Absent => self == Call::Replace || self == Call::Remove,
+            _ => self == Call::Undo,
         }
     }
 }
@@ -35,39 +94,72 @@ impl Tally {
         self.reached[call as usize][number as usize] += 1;
     }
 
+    pub fn count_reason(&mut self, call: Call, reason: Reason) {
+        self.broken[call as usize][reason as usize] += 1;
+    }
+
     pub fn calls(&self) -> u64 {
         self.reached.iter().flatten().sum()
     }
 
-    /// The numbers that a whole run must reach, but this one did not.
-    pub fn never_reached(&self) -> Vec<u64> {
-        due().filter(|number| self.total(*number) == 0).collect()
+    /// The numbers and rules that a whole run must reach with a call, but this one did not.
+    pub fn never_reached(&self) -> Vec<String> {
+        let name = |call: Call, what: &str| format!("{}: {what}", call.title());
+        let numbers = cells(numbers()).filter(|(number, call)| self.number(*call, *number) == Some(0));
+        let reasons = cells(REASONS.into_iter()).filter(|((reason, _), call)| self.reason(*call, *reason) == Some(0));
+        let numbers = numbers.map(|(number, call)| name(call, &number.to_string()));
+        let starts = (self.undone_starts == 0).then(|| name(Call::Undo, "an edit before the sequence"));
+        numbers.chain(reasons.map(|((_, title), call)| name(call, title))).chain(starts).collect()
     }
 
-    fn total(&self, number: u64) -> u64 {
-        self.reached.iter().map(|call| call[number as usize]).sum()
+    /// How often a call answered a number, where it can.
+    fn number(&self, call: Call, number: u64) -> Option<u64> {
+        call.can_answer(number).then(|| self.reached[call as usize][number as usize])
+    }
+
+    /// How often a rule refused a call, where it can.
+    fn reason(&self, call: Call, reason: Reason) -> Option<u64> {
+        call.can_break(reason).then(|| self.broken[call as usize][reason as usize])
     }
 }
 
-/// The numbers that the compared calls can answer.
-fn due() -> impl Iterator<Item = u64> {
-    (0..=ABSENT).chain([SMALL])
+/// The numbers that some call can answer.
+fn numbers() -> impl Iterator<Item = u64> {
+    (0..NUMBERS as u64).filter(|number| CALLS.iter().any(|call| call.can_answer(*number)))
+}
+
+/// Each row with each call.
+fn cells<R: Copy>(rows: impl Iterator<Item = R>) -> impl Iterator<Item = (R, Call)> {
+    rows.flat_map(|row| CALLS.into_iter().map(move |call| (row, call)))
 }
 
 impl fmt::Display for Tally {
     fn fmt(&self, out: &mut fmt::Formatter) -> fmt::Result {
-        write!(out, "number")?;
-        for call in ALL {
-            write!(out, "{:>12}", call.title())?;
+        head(out, "number", &CALLS)?;
+        for number in numbers() {
+            row(out, &number.to_string(), CALLS.iter().map(|call| self.number(*call, number)))?;
         }
-        writeln!(out)?;
-        for number in due() {
-            write!(out, "{number:>6}")?;
-            for call in ALL {
-                write!(out, "{:>12}", self.reached[call as usize][number as usize])?;
-            }
-            writeln!(out)?;
+        head(out, "rule", &EDITS)?;
+        for (reason, title) in REASONS {
+            row(out, title, EDITS.iter().map(|call| self.reason(*call, reason)))?;
         }
         Ok(())
     }
+}
+
+fn head(out: &mut fmt::Formatter, title: &str, calls: &[Call]) -> fmt::Result {
+    write!(out, "{title:<20}")?;
+    for call in calls {
+        write!(out, "{:>10}", call.title())?;
+    }
+    writeln!(out)
+}
+
+/// A line of counts, a dash where a count is not possible.
+fn row(out: &mut fmt::Formatter, title: &str, counts: impl Iterator<Item = Option<u64>>) -> fmt::Result {
+    write!(out, "{title:<20}")?;
+    for count in counts {
+        write!(out, "{:>10}", count.map_or("-".into(), |count| count.to_string()))?;
+    }
+    writeln!(out)
 }

@@ -23,10 +23,21 @@ pub struct ListAnswer {
     pub elements: u64,
 }
 
+#[repr(C)]
+pub struct EditAnswer {
+    pub number: u64,
+    pub place: u64,
+    pub length: u64,
+}
+
 extern "C" {
     fn hdf4_open(image: *const u8, n: usize) -> OpenAnswer;
     fn hdf4_find(image: *const u8, n: usize, tag: u16, reference: u16) -> FindAnswer;
     fn hdf4_list(image: *const u8, n: usize, table: *mut u32, room: usize) -> ListAnswer;
+    fn hdf4_add(b: *mut u8, capacity: usize, n: u64, tag: u16, reference: u16, data: *const u8, size: usize) -> EditAnswer;
+    fn hdf4_replace(b: *mut u8, capacity: usize, n: u64, tag: u16, reference: u16, data: *const u8, size: usize) -> EditAnswer;
+    fn hdf4_remove(b: *mut u8, capacity: usize, n: u64, tag: u16, reference: u16) -> EditAnswer;
+    fn hdf4_undo(b: *mut u8, capacity: usize, n: u64) -> EditAnswer;
 }
 
 pub fn open(image: &[u8]) -> OpenAnswer {
@@ -39,4 +50,20 @@ pub fn find(image: &[u8], tag: u16, reference: u16) -> FindAnswer {
 
 pub fn list(image: &[u8], table: &mut [u32]) -> ListAnswer {
     unsafe { hdf4_list(image.as_ptr(), image.len(), table.as_mut_ptr(), table.len()) }
+}
+
+pub fn add(buffer: &mut [u8], n: u64, tag: u16, reference: u16, data: &[u8]) -> EditAnswer {
+    unsafe { hdf4_add(buffer.as_mut_ptr(), buffer.len(), n, tag, reference, data.as_ptr(), data.len()) }
+}
+
+pub fn replace(buffer: &mut [u8], n: u64, tag: u16, reference: u16, data: &[u8]) -> EditAnswer {
+    unsafe { hdf4_replace(buffer.as_mut_ptr(), buffer.len(), n, tag, reference, data.as_ptr(), data.len()) }
+}
+
+pub fn remove(buffer: &mut [u8], n: u64, tag: u16, reference: u16) -> EditAnswer {
+    unsafe { hdf4_remove(buffer.as_mut_ptr(), buffer.len(), n, tag, reference) }
+}
+
+pub fn undo(buffer: &mut [u8], n: u64) -> EditAnswer {
+    unsafe { hdf4_undo(buffer.as_mut_ptr(), buffer.len(), n) }
 }

@@ -1,6 +1,38 @@
 //! A safe interface to the proved HDF4 library: slices in, `Result` out.
 //!
 //! An image is the bytes of a whole file. Nothing is kept between calls, and nothing is allocated but the list of elements.
+//!
+//! # Edits
+//!
+//! [`add`], [`replace`], [`remove`] and [`undo`] take a buffer with an image at its front and the image's length, and give the
+//! length of the new image, which then stands at the front of the buffer. The bytes behind it stay as they were, and a refused
+//! call alters nothing. Each edit leaves a trailer at the end of the image, so that edits can be undone one after the other,
+//! also after the file was stored and read again.
+//!
+//! ```
+//! # fn main() -> Result<(), hdf4::Error> {
+//! // A file without elements, in a buffer with room for one.
+//! let file = b"\x0e\x03\x13\x01\0\0\0\0\0\0";
+//! let closure = b"bridge street closed until friday";
+//! let mut buffer = vec![0; file.len() + closure.len() + hdf4::EDIT_ROOM];
+//! buffer[..file.len()].copy_from_slice(file);
+//!
+//! // Adds the road closure under tag 40000, reference 5.
+//! let length = hdf4::add(&mut buffer, file.len(), 40000, 5, closure)?;
+//!
+//! // Finds it again.
+//! let image = &buffer[..length];
+//! assert_eq!(hdf4::find(image, 40000, 5)?, 16);
+//! let element = hdf4::list(image)?[0];
+//! let start = element.offset as usize;
+//! assert_eq!(&image[start..start + element.length as usize], closure);
+//!
+//! // Takes it back: the file is as it was.
+//! let length = hdf4::undo(&mut buffer, length)?;
+//! assert_eq!(&buffer[..length], file);
+//! # Ok(())
+//! # }
+//! ```
 
 mod ffi;
 
@@ -10,7 +42,7 @@ use std::fmt;
 #[derive(Clone, Copy, Debug, PartialEq, Eq)]
 #[non_exhaustive]
 pub enum Rule {
-    /// The image is longer than 2,147,483,647 bytes.
+    /// The image is longer than 2,147,483,647 bytes or than its buffer, or an edit would make it longer than that many bytes.
     TooLong,
     /// Shorter than 4 bytes, or other first bytes.
     NotHdf,
@@ -22,7 +54,7 @@ pub enum Rule {
     DirOver,
     /// A 257th block or a 4,097th slot.
     DirBig,
-    /// A tag that no live slot may have.
+    /// A tag that no live slot may have, or that no edit takes.
     BadTag,
     /// An element ends past the image.
     Outside,
@@ -34,10 +66,18 @@ pub enum Rule {
     Absent,
     /// The lent output is too short.
     Small,
+    /// An element with that base tag and reference is there already.
+    Present,
+    /// The buffer is shorter than the new image.
+    NoRoom,
+    /// The image carries no trailer, so there is nothing to undo.
+    NoEdit,
+    /// The trailer breaks a rule.
+    BadTrailer,
 }
 
 /// Each rule with its number, its name, and what it says.
-const RULES: [(u64, Rule, &str, &str); 12] = [
+const RULES: [(u64, Rule, &str, &str); 16] = [
     (1, Rule::TooLong, "TOO_LONG", "the file is too long"),
     (2, Rule::NotHdf, "NOT_HDF", "this is no HDF4 file"),
     (3, Rule::DirCut, "DIR_CUT", "a block of descriptors is not wholly inside the file"),
@@ -50,7 +90,14 @@ const RULES: [(u64, Rule, &str, &str); 12] = [
     (10, Rule::Twice, "TWICE", "two elements have the same tag and reference"),
     (11, Rule::Absent, "ABSENT", "there is no element with that tag and reference"),
     (14, Rule::Small, "SMALL", "the output is too short"),
+    (18, Rule::Present, "PRESENT", "there is already an element with that tag and reference"),
+    (19, Rule::NoRoom, "NO_ROOM", "the buffer has no room for the edit"),
+    (20, Rule::NoEdit, "NO_EDIT", "there is no edit to undo"),
+    (21, Rule::BadTrailer, "BAD_TRAILER", "the trailer of the last edit is damaged"),
 ];
+
+/// The most bytes by which an edit makes an image longer, besides its data: a block of descriptors and a trailer.
+pub const EDIT_ROOM: usize = 198 + 32;
 
 /// A refusal: the rule, its number, and the place of the fault in the image.
 #[derive(Clone, Copy, Debug, PartialEq, Eq)]
@@ -138,6 +185,36 @@ pub fn list(image: &[u8]) -> Result<Vec<Element>, Error> {
     granted(a.number, a.place, table.chunks_exact(4).map(element).collect())
 }
 
+fn edited(answer: ffi::EditAnswer) -> Result<usize, Error> {
+    granted(answer.number, answer.place, answer.length as usize)
+}
+
+/// Adds an element to the image in the first `length` bytes of a buffer. Gives the new length, at most [`EDIT_ROOM`] and the
+/// length of the data above the old one.
+///
+/// It takes the first free descriptor or, where there is none, one of a new block. The tag is not 0, 1 or 107, and not of the
+/// extended form, 16384 to 32767.
+pub fn add(buffer: &mut [u8], length: usize, tag: u16, reference: u16, data: &[u8]) -> Result<usize, Error> {
+    edited(ffi::add(buffer, length as u64, tag, reference, data))
+}
+
+/// Gives an element of the image in the first `length` bytes of a buffer other data. Gives the new length.
+pub fn replace(buffer: &mut [u8], length: usize, tag: u16, reference: u16, data: &[u8]) -> Result<usize, Error> {
+    edited(ffi::replace(buffer, length as u64, tag, reference, data))
+}
+
+/// Removes an element from the image in the first `length` bytes of a buffer. Gives the new length: the image grows by a
+/// trailer, and keeps the element's bytes for an undo.
+pub fn remove(buffer: &mut [u8], length: usize, tag: u16, reference: u16) -> Result<usize, Error> {
+    edited(ffi::remove(buffer, length as u64, tag, reference))
+}
+
+/// Undoes the last edit of the image in the first `length` bytes of a buffer that is not undone yet. Gives the length before
+/// that edit; the image is then as it was, byte for byte.
+pub fn undo(buffer: &mut [u8], length: usize) -> Result<usize, Error> {
+    edited(ffi::undo(buffer, length as u64))
+}
+
 #[cfg(test)]
 mod tests {
     use super::*;
@@ -160,5 +237,89 @@ mod tests {
         assert_eq!((absent.rule, absent.name(), absent.number, absent.place), (Rule::Absent, "ABSENT", 11, 0));
         assert_eq!(open(b"").unwrap_err().rule, Rule::NotHdf);
         assert_eq!(open(&A[..10]).unwrap_err().to_string(), "DIR_CUT: a block of descriptors is not wholly inside the file (number 3, place 4)");
+    }
+
+    /// File A after the add of marked case 12: 40000/5 with byte 2a in the second slot, then the trailer.
+    const A_ADDED: [u8; 70] = *b"\x0e\x03\x13\x01\x00\x02\x00\x00\x00\x00\x00\x64\x00\x01\x00\x00\x00\x22\x00\x00\x00\x03\
+                                 \x9c\x40\x00\x05\x00\x00\x00\x25\x00\x00\x00\x01hub\x2a\
+                                 \x00\x00\x00\x16\x00\x00\x00\x0c\x00\x01\x00\x00\x00\x00\x00\x00\x00\x00\x00\x00\
+                                 \x00\x00\x00\x25\x00\x00\x00\x00\x42\x41\x43\x4b";
+
+    const BEHIND: u8 = 0xee;
+
+    /// File A at the front of a buffer.
+    fn lent(capacity: usize) -> Vec<u8> {
+        let mut buffer = A.to_vec();
+        buffer.resize(capacity, BEHIND);
+        buffer
+    }
+
+    fn rule(answer: Result<usize, Error>) -> (Rule, u64, u64) {
+        let error = answer.unwrap_err();
+        (error.rule, error.number, error.place)
+    }
+
+    #[test]
+    fn two_adds_and_three_undos() {
+        let mut buffer = lent(400);
+        assert_eq!(add(&mut buffer, 37, 40000, 5, b"\x2a"), Ok(70));
+        assert_eq!(buffer[..70], A_ADDED);
+        assert!(buffer[70..].iter().all(|byte| *byte == BEHIND));
+        assert_eq!(find(&buffer[..70], 40000, 5), Ok(22));
+
+        assert_eq!(add(&mut buffer, 70, 40000, 6, b"\x2b"), Ok(301));
+        assert_eq!(open(&buffer[..301]), Ok(Counts { blocks: 2, slots: 18, live: 3 }));
+
+        assert_eq!(undo(&mut buffer, 301), Ok(70));
+        assert_eq!(buffer[..70], A_ADDED);
+        assert_eq!(undo(&mut buffer, 70), Ok(37));
+        assert_eq!(buffer[..37], A);
+        assert_eq!(rule(undo(&mut buffer, 37)), (Rule::NoEdit, 20, 0));
+        assert_eq!(buffer[..37], A);
+    }
+
+    #[test]
+    fn an_edit_without_room_alters_nothing() {
+        let mut buffer = lent(300);
+        assert_eq!(add(&mut buffer, 37, 40000, 5, b"\x2a"), Ok(70));
+        let before = buffer.clone();
+        assert_eq!(rule(add(&mut buffer, 70, 40000, 6, b"\x2b")), (Rule::NoRoom, 19, 0));
+        assert_eq!(buffer, before);
+        assert_eq!(undo(&mut buffer, 70), Ok(37));
+        assert_eq!(buffer[..37], A);
+    }
+
+    #[test]
+    fn replace_and_remove_are_undone() {
+        let mut buffer = lent(37 + 2 * EDIT_ROOM);
+        let replaced = replace(&mut buffer, 37, 100, 1, b"hubs").unwrap();
+        assert_eq!(list(&buffer[..replaced]), Ok(vec![Element { tag: 100, reference: 1, offset: 37, length: 4 }]));
+        let removed = remove(&mut buffer, replaced, 100, 1).unwrap();
+        assert_eq!(list(&buffer[..removed]), Ok(vec![]));
+        assert_eq!(undo(&mut buffer, removed), Ok(replaced));
+        assert_eq!(undo(&mut buffer, replaced), Ok(37));
+        assert_eq!(buffer[..37], A);
+    }
+
+    #[test]
+    fn edits_are_refused_by_their_rules() {
+        let mut buffer = lent(400);
+        assert_eq!(rule(add(&mut buffer, 37, 100, 1, b"")), (Rule::Present, 18, 0));
+        assert_eq!(rule(add(&mut buffer, 37, 107, 1, b"")), (Rule::BadTag, 7, 0));
+        assert_eq!(rule(replace(&mut buffer, 37, 100, 2, b"")), (Rule::Absent, 11, 0));
+        assert_eq!(rule(remove(&mut buffer, 37, 16484, 1)), (Rule::BadTag, 7, 0));
+        assert_eq!(rule(remove(&mut buffer, 401, 100, 1)), (Rule::TooLong, 1, 0));
+        assert_eq!(rule(undo(&mut buffer, usize::MAX)), (Rule::TooLong, 1, 0));
+        assert_eq!(buffer, lent(400));
+    }
+
+    #[test]
+    fn a_damaged_trailer_is_refused_at_its_place() {
+        let mut buffer = A_ADDED.to_vec();
+        buffer[38 + 27] = 1;
+        let before = buffer.clone();
+        let refused = undo(&mut buffer, 70).unwrap_err();
+        assert_eq!(refused.to_string(), "BAD_TRAILER: the trailer of the last edit is damaged (number 21, place 38)");
+        assert_eq!(buffer, before);
     }
 }

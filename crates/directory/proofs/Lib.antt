@@ -5,6 +5,7 @@ pub mod Slots
 pub mod Cursors
 pub mod Opening
 pub mod Rules
+pub mod Rooms
 pub mod Named
 pub mod Claims
 pub mod Cases

@@ -56,7 +56,19 @@ pub scan-none : (l : List ℕ) (n i : ℕ) → n ≤ i → n ≤ length l → (f
 unfolding any
 scan-none l n i h le f = rw (drop-of-length-le (take n l) {i = i} (rw (length-take-le n l le) h))
 
--- ---- The first of a list, one step
+-- ---- One step of a search
+
+pub any-here : (f : ℕ → Bool) (x : ℕ) (xs : List ℕ) → f x ≡ true → any f (x ∷ xs) ≡ true
+unfolding any
+any-here f x xs e = rw e
+
+pub any-later : (f : ℕ → Bool) (x : ℕ) (xs : List ℕ) → f x ≡ false → any f (x ∷ xs) ≡ any f xs
+unfolding any
+any-later f x xs e = rw e
+
+pub any-nil : (f : ℕ → Bool) → any f [] ≡ false
+unfolding any
+any-nil f = refl
 
 pub drop-next : (l : List ℕ) (i : ℕ) → i < length l → drop i l ≡ getD l i 0 ∷ drop (i + 1) l
 drop-next l i h = rw (add-one, drop-cons l i 0 h)

@@ -3,6 +3,7 @@ mod chain;
 mod cursor;
 pub mod format;
 pub mod listing;
+pub mod places;
 pub mod refusals;
 mod slot;
 
@@ -22,7 +23,7 @@ ghost use lib.ListN.{length, take};
 ghost use Rattle.directory.specs.Answer.{openedNumbers, foundNumbers, refusalOf};
 ghost use Rattle.directory.specs.Slots.{slotPlaces};
 ghost use Rattle.directory.specs.Opening.{headed, slotsFrom, openOf};
-ghost use Rattle.directory.specs.Lookup.{has, hitAnswer, findOf};
+ghost use Rattle.directory.specs.Lookup.{has, hitFound, findOf};
 ghost use Rattle.directory.specs.Search.{first};
 ghost use Rattle.directory.specs.Cursor.{slotsAfter};
 ghost use Rattle.directory.specs.Places.{Blocks, Follows};
@@ -140,7 +141,7 @@ pub fn refusal_of(opened: Opened) -> Refusal
 
 // The first live slot of a chain of so many blocks that has the base tag of a tag and a reference.
 pub fn find_slot(image: &[u8], blocks: usize, tag: u16, reference: u16) -> Found
-    ensures { λ r. ⌜ foundNumbers r ≡ hitAnswer (first (has (now (image .entry)) tag reference) (slotsAfter (now (image .entry)) blocks 4)) ⌝ }
+    ensures { λ r. ⌜ r ≡ hitFound (first (has (now (image .entry)) tag reference) (slotsAfter (now (image .entry)) blocks 4)) ⌝ }
 {
     let mut at = Cursor::start(image, blocks);
     while 0 < at.left {

@@ -3,12 +3,15 @@
 use directory::Found;
 use directory::Opened;
 use directory::listing::Listed;
+use journal::Edited;
 ghost use mathlib.Core.Path.{_≡_};
 ghost use lib.ListN.{length};
 ghost use Rattle.directory.specs.Opening.{openOf};
 ghost use Rattle.directory.specs.Lookup.{findOf};
 ghost use Rattle.directory.specs.Listing.{listOf, tableAfter};
-ghost use Rattle.hdf4.specs.Answers.{openAnswer, findAnswer, listAnswer};
+ghost use Rattle.journal.specs.Outcome.{editedNumbers};
+ghost use Rattle.journal.specs.Buffer.{addIn, replaceInBuffer, removeIn, undoIn};
+ghost use Rattle.hdf4.specs.Answers.{openAnswer, findAnswer, listAnswer, editAnswer, Edits, Undoes};
 
 #[repr(C)]
 pub struct OpenAnswer {
@@ -31,6 +34,13 @@ pub struct ListAnswer {
     pub number: u64,
     pub place: u64,
     pub elements: u64,
+}
+
+#[repr(C)]
+pub struct EditAnswer {
+    pub number: u64,
+    pub place: u64,
+    pub length: u64,
 }
 
 #[no_mangle]
@@ -93,4 +103,61 @@ pub extern "C" fn hdf4_list(image: &[u8], table: &mut [u32]) -> ListAnswer
             elements: 0,
         },
     }
+}
+
+fn edit_answer(edited: Edited) -> EditAnswer
+    ensures { λ r. ⌜ editAnswer r ≡ editedNumbers edited ⌝ }
+{
+    match edited {
+        Edited::Granted(length) => EditAnswer {
+            number: 0,
+            place: 0,
+            length: length as u64,
+        },
+        Edited::Refused(r) => EditAnswer {
+            number: r.number as u64,
+            place: r.place as u64,
+            length: 0,
+        },
+    }
+}
+
+#[no_mangle]
+pub extern "C" fn hdf4_add(
+    buffer: &mut [u8],
+    n: u64,
+    tag: u16,
+    reference: u16,
+    content: &[u8],
+) -> EditAnswer
+    ensures { λ r. ⌜ Edits (now (buffer .entry)) (now (buffer .exit)) (addIn (now (buffer .entry)) n tag reference (now (content .entry))) r ⌝ }
+{
+    edit_answer(journal::add(buffer, n as usize, tag, reference, content))
+}
+
+#[no_mangle]
+pub extern "C" fn hdf4_replace(
+    buffer: &mut [u8],
+    n: u64,
+    tag: u16,
+    reference: u16,
+    content: &[u8],
+) -> EditAnswer
+    ensures { λ r. ⌜ Edits (now (buffer .entry)) (now (buffer .exit)) (replaceInBuffer (now (buffer .entry)) n tag reference (now (content .entry))) r ⌝ }
+{
+    edit_answer(journal::replace(buffer, n as usize, tag, reference, content))
+}
+
+#[no_mangle]
+pub extern "C" fn hdf4_remove(buffer: &mut [u8], n: u64, tag: u16, reference: u16) -> EditAnswer
+    ensures { λ r. ⌜ Edits (now (buffer .entry)) (now (buffer .exit)) (removeIn (now (buffer .entry)) n tag reference) r ⌝ }
+{
+    edit_answer(journal::remove(buffer, n as usize, tag, reference))
+}
+
+#[no_mangle]
+pub extern "C" fn hdf4_undo(buffer: &mut [u8], n: u64) -> EditAnswer
+    ensures { λ r. ⌜ Undoes (now (buffer .entry)) (now (buffer .exit)) n (undoIn (now (buffer .entry)) n) r ⌝ }
+{
+    edit_answer(journal::undo(buffer, n as usize))
 }

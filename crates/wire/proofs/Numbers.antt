@@ -1,14 +1,17 @@
 -- The laws of numbers in bytes, each once over the width: frame, append, split, put after put, read after write, write after read.
 -- Assumes nothing.
-use Prim.Native.Nat.{ℕ, zero, suc, _+_, _*_, _/_, _%_, _^_, _-_, _<_, _≤_}
+use Prim.Native.Nat.{ℕ, zero, suc, _+_, _*_, _/_, _%_, _^_, _-_, _<_, _≤_, min}
 use native.Mathlib.Nat.{add-zero, add-suc, suc-add, pow-suc, pow-succ', pow-le-pow-right, one-le-pow, mul-assoc, add-assoc, mul-one, div-one, div-div-eq-div-mul}
 use native.Mathlib.Omega.{arith}
 use native.Mathlib.Numerals.{add-one}
 use mathlib.Core.Path.{_≡_, refl, sym, ap, _∙_}
 use mathlib.Core.List.{List, [], _∷_, _++_, append-assoc, append-nil}
 use mathlib.Core.Logic.{_⊎_, inl, inr, ⊎-elim}
-use lib.ListN.{length, getD, take, drop, set, length-append, length-set, length-drop, List·getD-eq-default, List·getD-append}
-use lib.Seq.{sets, length-sets, sets-eq, set-out, set-append-left, getD-append-add, getD-append-seam, getD-set-same, getD-set-other, getD-drop, take-suc}
+use mathlib.Core.Bool.{Bool, true, false}
+use lib.Dec.{ltb}
+use borrow.Author.Tests.{ltb-true, ltb-false}
+use lib.ListN.{length, getD, take, drop, set, take-append-drop, length-append, length-set, length-drop, List·getD-eq-default, List·getD-append}
+use lib.Seq.{sets, length-sets, sets-eq, set-out, set-append-left, getD-append-add, getD-append-seam, getD-set-same, getD-set-other, getD-drop, take-suc, take-length, length-take-le}
 use Rattle.wire.specs.Numbers.{be, bytes, put, part, Bytes, Reads}
 
 -- the bytes of s and t from a up to e are the same
@@ -203,3 +206,30 @@ put-halves k s at x =
     ap (λ m. put (put s at (bytes k (x / 256 ^ k))) (at + m) (bytes k x)) (sym n)
     ∙ put-put s at (bytes k (x / 256 ^ k)) (bytes k x)
     ∙ ap (put s at) (sym (bytes-split k k x))
+
+-- ---- Copying bytes, one by one
+
+-- one byte more
+pub put-more : (s : List ℕ) (at : ℕ) (vs : List ℕ) (i : ℕ) → i < length vs → set (put s at (take i vs)) (at + i) (getD vs i 0) ≡ put s at (take (i + 1) vs)
+unfolding put
+put-more s at vs i h =
+    let n : length (take i vs) ≡ i = length-take-le i vs (omega arith) in
+    let e : take (i + 1) vs ≡ take i vs ++ (getD vs i 0 ∷ []) = rw (add-one, take-suc vs i 0 h) in
+    ap (λ k. set (sets s at (take i vs)) (at + k) (getD vs i 0)) (sym n) ∙ put-put s at (take i vs) (getD vs i 0 ∷ []) ∙ ap (put s at) (sym e)
+
+-- as many bytes as there is room for
+pub put-clipped : (s : List ℕ) (at : ℕ) (vs : List ℕ) → at ≤ length s → put s at (take (min (length s - at) (length vs)) vs) ≡ put s at vs
+put-clipped s at vs h = go (ltb (length s - at) (length vs)) refl
+  where
+    go : (b : Bool) → ltb (length s - at) (length vs) ≡ b → put s at (take (min (length s - at) (length vs)) vs) ≡ put s at vs
+    go true e =
+        let l : length s - at < length vs = ltb-true _ _ e in
+        let m : min (length s - at) (length vs) ≡ length s - at = omega arith in
+        let n : length (take (length s - at) vs) ≡ length s - at = length-take-le (length s - at) vs (omega arith) in
+        let p : put (put s at (take (length s - at) vs)) (at + length (take (length s - at) vs)) (drop (length s - at) vs) ≡ put s at (take (length s - at) vs) =
+        put-past (put s at (take (length s - at) vs)) _ _ (rw length-put (omega arith)) in
+        rw m (sym p ∙ put-put s at (take (length s - at) vs) (drop (length s - at) vs) ∙ ap (put s at) (take-append-drop (length s - at) vs))
+    go false e =
+        let l : length vs ≤ length s - at = ltb-false _ _ e in
+        let m : min (length s - at) (length vs) ≡ length vs = omega arith in
+        rw m (ap (put s at) (take-length vs))

@@ -2,7 +2,7 @@
 //
 // Every function answers on all inputs. A byte past the end reads as 0, and what would be written past the end is dropped.
 ghost use mathlib.Core.Path.{_≡_};
-ghost use Prim.Native.Nat.{_+_, _<_, _≤_};
+ghost use Prim.Native.Nat.{_+_, _<_, _≤_, min};
 ghost use lib.ListN.{length};
 ghost use Rattle.wire.specs.Numbers.{bytes, put, Reads};
 
@@ -105,4 +105,28 @@ pub fn write64(s: &mut [u8], at: usize, x: usize)
     }
     write32(s, at, x / 4294967296);
     write32(s, at + 4, x);
+}
+
+fn least(a: usize, b: usize) -> usize
+    ensures { λ r. ⌜ r ≡ min a b ⌝ }
+{
+    if a < b {
+        return a;
+    }
+    b
+}
+
+// Copies bytes to a place.
+pub fn write_bytes(s: &mut [u8], at: usize, vs: &[u8])
+    ensures { λ _. ⌜ now (s .exit) ≡ put (now (s .entry)) at (now (vs .entry)) ⌝ }
+{
+    if s.len() <= at {
+        return;
+    }
+    let count = least(s.len() - at, vs.len());
+    let mut i = 0;
+    while i < count {
+        s[at + i] = vs[i];
+        i += 1;
+    }
 }

@@ -1,0 +1,239 @@
+//! Runs the built program on copies of real files: edits, undo, refusals, and how a file is written back.
+
+use std::fs;
+use std::io::Write;
+use std::os::unix::fs::{symlink, MetadataExt, PermissionsExt};
+use std::path::{Path, PathBuf};
+use std::process::{self, Command, Output, Stdio};
+use std::thread;
+use std::time::Duration;
+
+const FILES: &str = concat!(env!("CARGO_MANIFEST_DIR"), "/../harness/files");
+
+/// A folder of one test, removed at its end.
+struct Folder(PathBuf);
+
+impl Folder {
+    fn new(test: &str) -> Folder {
+        let path = std::env::temp_dir().join(format!("hdf4-cli-{}-{test}", process::id()));
+        fs::create_dir(&path).unwrap();
+        Folder(path)
+    }
+
+    fn path(&self, name: &str) -> PathBuf {
+        self.0.join(name)
+    }
+
+    /// A copy of one of the real files.
+    fn copy_of(&self, name: &str) -> PathBuf {
+        let path = self.path(name);
+        fs::copy(Path::new(FILES).join(name), &path).unwrap();
+        path
+    }
+
+    fn data(&self, bytes: &[u8]) -> PathBuf {
+        let path = self.path("data");
+        fs::write(&path, bytes).unwrap();
+        path
+    }
+
+    fn names(&self) -> Vec<String> {
+        let entries = fs::read_dir(&self.0).unwrap();
+        entries.map(|entry| entry.unwrap().file_name().into_string().unwrap()).collect()
+    }
+}
+
+impl Drop for Folder {
+    fn drop(&mut self) {
+        let _ = fs::remove_dir_all(&self.0);
+    }
+}
+
+fn program() -> Command {
+    Command::new(env!("CARGO_BIN_EXE_hdf4"))
+}
+
+fn text(path: &Path) -> &str {
+    path.to_str().unwrap()
+}
+
+/// A command that must succeed; answers what it printed.
+fn granted(words: &[&str]) -> String {
+    let Output { status, stdout, stderr } = program().args(words).output().unwrap();
+    assert!(status.success(), "{words:?}: {}", String::from_utf8_lossy(&stderr));
+    String::from_utf8(stdout).unwrap()
+}
+
+/// A command that must end with 1 and print nothing; answers its message.
+fn refused(words: &[&str]) -> String {
+    let Output { status, stdout, stderr } = program().args(words).output().unwrap();
+    assert_eq!(status.code(), Some(1), "{words:?}");
+    assert!(stdout.is_empty(), "{words:?}");
+    String::from_utf8(stderr).unwrap()
+}
+
+/// A command that must be refused and leave the file as it is, not even written again.
+fn refused_on(file: &Path, words: &[&str], message: &str) {
+    let before = (fs::read(file).unwrap(), fs::metadata(file).unwrap().ino());
+    let answer = refused(words);
+    assert!(answer.contains(message), "{words:?}: {answer}");
+    assert!(answer.contains(text(file)), "{words:?}: {answer}");
+    assert_eq!((fs::read(file).unwrap(), fs::metadata(file).unwrap().ino()), before, "{words:?}");
+}
+
+#[test]
+fn an_added_element_is_listed_and_undone() {
+    let folder = Folder::new("add");
+    let (file, data) = (folder.copy_of("elements.hdf"), folder.data(b"closed"));
+    let before = fs::read(&file).unwrap();
+    let (file_word, data_word) = (text(&file), text(&data));
+
+    let printed = granted(&["add", file_word, "40000", "5", data_word]);
+    let after = fs::read(&file).unwrap();
+    assert_eq!(printed, format!("{file_word}: {} bytes\n", after.len()));
+    assert_eq!(after.len(), before.len() + 6 + 32);
+    let line = format!("tag 40000 ref 5 offset {} length 6\n", before.len());
+    assert!(granted(&["list", file_word]).contains(&line));
+
+    assert_eq!(granted(&["undo", file_word]), format!("{file_word}: {} bytes\n", before.len()));
+    assert_eq!(fs::read(&file).unwrap(), before);
+    refused_on(&file, &["undo", file_word], "NO_EDIT: there is no edit to undo (number 20, place 0)");
+}
+
+#[test]
+fn edits_are_undone_one_after_the_other() {
+    let folder = Folder::new("undo");
+    let (file, data) = (folder.copy_of("empty.hdf"), folder.data(b"closed"));
+    let (file_word, data_word) = (text(&file), text(&data));
+    let edits: [&[&str]; 4] = [
+        &["add", file_word, "0x9c40", "5", data_word],
+        &["replace", file_word, "40000", "0x5", "/dev/null"],
+        &["remove", file_word, "40000", "5"],
+        &["add", file_word, "40000", "6", data_word],
+    ];
+    let mut files = Vec::new();
+    for words in edits {
+        files.push(fs::read(&file).unwrap());
+        granted(words);
+    }
+    for before in files.iter().rev() {
+        granted(&["undo", file_word]);
+        assert_eq!(&fs::read(&file).unwrap(), before);
+    }
+}
+
+#[test]
+fn every_file_that_opens_is_edited_and_undone() {
+    let folder = Folder::new("all");
+    let data = folder.data(b"closed");
+    let names = fs::read_dir(FILES).unwrap().map(|entry| entry.unwrap().file_name().into_string().unwrap());
+    for name in names.filter(|name| name.ends_with(".hdf")) {
+        let file = folder.copy_of(&name);
+        let before = fs::read(&file).unwrap();
+        let opens = program().args(["list", text(&file)]).output().unwrap().status.success();
+        if !opens {
+            refused(&["add", text(&file), "40000", "4321", text(&data)]);
+            assert_eq!(fs::read(&file).unwrap(), before, "{name}");
+            continue;
+        }
+        granted(&["add", text(&file), "40000", "4321", text(&data)]);
+        granted(&["remove", text(&file), "40000", "4321"]);
+        granted(&["undo", text(&file)]);
+        granted(&["undo", text(&file)]);
+        assert_eq!(fs::read(&file).unwrap(), before, "{name}");
+    }
+}
+
+#[test]
+fn data_come_from_standard_input() {
+    let folder = Folder::new("input");
+    let file = folder.copy_of("elements.hdf");
+    let add = ["add", text(&file), "40000", "5", "-"];
+    let mut child = program().args(add).stdin(Stdio::piped()).stdout(Stdio::null()).spawn().unwrap();
+    child.stdin.take().unwrap().write_all(b"closed at noon").unwrap();
+    assert!(child.wait().unwrap().success());
+    let after = fs::read(&file).unwrap();
+    assert!(after[..after.len() - 32].ends_with(b"closed at noon"));
+}
+
+#[test]
+fn refusals_name_their_rule_and_leave_the_file() {
+    let folder = Folder::new("refused");
+    let (file, data) = (folder.copy_of("empty.hdf"), folder.data(b"closed"));
+    let (file_word, data_word) = (text(&file), text(&data));
+    refused_on(&file, &["add", file_word, "107", "1", data_word], "BAD_TAG: a tag is not allowed (number 7, place 0)");
+    refused_on(&file, &["remove", file_word, "40000", "5"], "(number 11, place 0)");
+    refused_on(&file, &["undo", file_word], "(number 20, place 0)");
+    granted(&["add", file_word, "40000", "5", data_word]);
+    refused_on(&file, &["add", file_word, "40000", "5", data_word], "PRESENT");
+
+    let mut bytes = fs::read(&file).unwrap();
+    let trailer = bytes.len() - 32;
+    bytes[trailer + 4] = 1;
+    fs::write(&file, &bytes).unwrap();
+    refused_on(&file, &["undo", file_word], &format!("(number 21, place {trailer})"));
+
+    let other = folder.copy_of("set_aside.hdf");
+    refused_on(&other, &["add", text(&other), "40000", "5", data_word], "OUTSIDE");
+}
+
+#[test]
+fn words_that_say_nothing_are_refused() {
+    let folder = Folder::new("words");
+    let file = folder.copy_of("empty.hdf");
+    let before = fs::read(&file).unwrap();
+    for number in ["", "-1", "+1", "65536", "0x10000", "0x", "0x+1", "five", "1.0"] {
+        let message = refused(&["remove", text(&file), number, "5"]);
+        assert!(message.contains("not a number from 0 to 65535"), "{number}: {message}");
+    }
+    let words: [&[&str]; 5] = [&[], &["cut", "x"], &["add", "x", "1", "2"], &["undo"], &["list", "x", "y"]];
+    for words in words {
+        assert!(refused(words).contains("usage:"), "{words:?}");
+    }
+    let absent = folder.path("absent");
+    assert!(refused(&["undo", text(&absent)]).contains(text(&absent)));
+    assert!(refused(&["add", text(&file), "40000", "5", text(&absent)]).contains(text(&absent)));
+    assert_eq!(fs::read(&file).unwrap(), before);
+    assert!(granted(&["--help"]).contains("usage:"));
+}
+
+#[test]
+fn permissions_and_links_are_kept_and_nothing_is_left_behind() {
+    let folder = Folder::new("kept");
+    let file = folder.copy_of("empty.hdf");
+    let link = folder.path("link.hdf");
+    symlink("empty.hdf", &link).unwrap();
+    for mode in [0o600, 0o640, 0o664] {
+        fs::set_permissions(&file, fs::Permissions::from_mode(mode)).unwrap();
+        granted(&["add", text(&link), "40000", &mode.to_string(), "/dev/null"]);
+        assert_eq!(fs::metadata(&file).unwrap().permissions().mode() & 0o777, mode);
+    }
+    assert!(fs::symlink_metadata(&link).unwrap().is_symlink());
+    assert!(granted(&["list", text(&file)]).contains("tag 40000"));
+    let mut names = folder.names();
+    names.sort();
+    assert_eq!(names, ["empty.hdf", "link.hdf"]);
+}
+
+#[test]
+fn a_killed_program_leaves_the_old_file_or_the_new_one() {
+    let folder = Folder::new("killed");
+    let (file, data) = (folder.copy_of("empty.hdf"), folder.data(&vec![0x2a; 1 << 20]));
+    let add = ["add", text(&file), "40000", "5", text(&data)];
+    let old = fs::read(&file).unwrap();
+    granted(&add);
+    let new = fs::read(&file).unwrap();
+    for delay in 0..40 {
+        fs::write(&file, &old).unwrap();
+        let mut child = program().args(add).stdout(Stdio::null()).spawn().unwrap();
+        thread::sleep(Duration::from_micros(100 * delay));
+        child.kill().unwrap();
+        child.wait().unwrap();
+        let left = fs::read(&file).unwrap();
+        assert!(left == old || left == new, "after {delay}");
+    }
+    // What a killed program leaves beside the file does no harm.
+    fs::write(&file, &old).unwrap();
+    granted(&add);
+    assert_eq!(fs::read(&file).unwrap(), new);
+}

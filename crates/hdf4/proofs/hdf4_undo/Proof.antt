@@ -1,0 +1,20 @@
+-- `hdf4::hdf4_undo` meets its contract. Assumes nothing.
+use mathlib.Core.Path.{_∙_}
+use borrow.Author.Needs.{needs}
+use Rattle.hdf4.proofs.hdf4_undo.Statement.{statement}
+use Rattle.hdf4.proofs.hdf4_undo.Tie as tie
+
+undo-requires : tie.Need-undo-requires
+undo-requires c κs = search needs
+
+edit-answer-requires : tie.Need-edit-answer-requires
+edit-answer-requires c κs = search needs
+
+same-length : tie.Need-same-length
+same-length c = search needs
+
+returns : tie.Need-returns
+returns c = record { answer = c .edit-answer .ensures ∙ c .before .before .before .undo .ensures .answer; lent = c .before .before .before .undo .ensures .lent }
+
+pub hdf4-undo-spec : {M : Type 1} → statement M
+hdf4-undo-spec = tie.close (tie.spec undo-requires edit-answer-requires same-length returns)

@@ -1,0 +1,127 @@
+-- Every element of a file that an edit makes is a byte. Assumes nothing.
+use Prim.Native.Nat.{ℕ, zero, suc, _+_, _/_, _%_, _<_}
+use mathlib.Core.List.{List, [], _∷_, _++_}
+use native.Mathlib.Omega.{arith}
+use lib.ListN.{length, take, drop, set, replicate}
+use lib.Seq.{getD-drop}
+use Rattle.wire.specs.Numbers.{bytes, put, part, Bytes}
+use Rattle.directory.specs.Limits.{free-tag}
+use Rattle.journal.specs.Trailer.{trailer, previousOf, closing}
+use Rattle.journal.specs.Edit.{slotBytes, freeSlot, freeSlots, newBlock, block-slots, dataOffset, dataSlot, slotEdit, blockEdit}
+
+-- ---- Lists of bytes
+
+bytes-nil : Bytes []
+bytes-nil i = omega arith
+
+bytes-cons : (x : ℕ) (s : List ℕ) → x < 256 → Bytes s → Bytes (x ∷ s)
+bytes-cons x s b h zero = b
+bytes-cons x s b h (suc i) = h i
+
+pub bytes-append : (s t : List ℕ) → Bytes s → Bytes t → Bytes (s ++ t)
+bytes-append [] t h g = g
+bytes-append (x ∷ s) t h g = bytes-cons x (s ++ t) (h 0) (bytes-append s t (λ i. h (suc i)) g)
+
+pub bytes-take : (n : ℕ) (s : List ℕ) → Bytes s → Bytes (take n s)
+bytes-take zero [] h = h
+bytes-take zero (x ∷ s) h = bytes-nil
+bytes-take (suc n) [] h = h
+bytes-take (suc n) (x ∷ s) h = bytes-cons x (take n s) (h 0) (bytes-take n s (λ i. h (suc i)))
+
+pub bytes-drop : (n : ℕ) (s : List ℕ) → Bytes s → Bytes (drop n s)
+bytes-drop n s h i = rw getD-drop (h (n + i))
+
+pub bytes-part : (s : List ℕ) (at k : ℕ) → Bytes s → Bytes (part s at k)
+unfolding part
+bytes-part s at k h = bytes-take k (drop at s) (bytes-drop at s h)
+
+bytes-set : (s : List ℕ) (at v : ℕ) → v < 256 → Bytes s → Bytes (set s at v)
+bytes-set [] at v b h = h
+bytes-set (x ∷ s) zero v b h = bytes-cons v s b (λ i. h (suc i))
+bytes-set (x ∷ s) (suc at) v b h = bytes-cons x (set s at v) (h 0) (bytes-set s at v b (λ i. h (suc i)))
+
+pub bytes-put : (s : List ℕ) (at : ℕ) (vs : List ℕ) → Bytes s → Bytes vs → Bytes (put s at vs)
+unfolding put
+bytes-put s at [] h g = h
+bytes-put s at (v ∷ vs) h g = bytes-put (set s at v) (suc at) vs (bytes-set s at v (g 0) h) (λ i. g (suc i))
+
+bytes-number : (k x : ℕ) → Bytes (bytes k x)
+unfolding bytes
+bytes-number zero x = bytes-nil
+bytes-number (suc k) x = bytes-append (bytes k (x / 256)) (x % 256 ∷ []) (bytes-number k (x / 256)) (bytes-cons (x % 256) [] (omega arith) bytes-nil)
+
+bytes-zeros : (k : ℕ) → Bytes (replicate k 0)
+bytes-zeros zero = bytes-nil
+bytes-zeros (suc k) = bytes-cons 0 (replicate k 0) (omega arith) (bytes-zeros k)
+
+-- ---- What edits write
+
+-- the same as a record, which shows the list
+record AllBytes (s : List ℕ) : Type 0 where
+  all : Bytes s
+
+infixl 60 _then_
+_then_ : {s t : List ℕ} → AllBytes s → AllBytes t → AllBytes (s ++ t)
+_then_ {s} {t} h g = record { all = bytes-append s t (h .all) (g .all) }
+
+all-number : (k x : ℕ) → AllBytes (bytes k x)
+all-number k x = record { all = bytes-number k x }
+
+all-put : {s vs : List ℕ} (at : ℕ) → AllBytes s → AllBytes vs → AllBytes (put s at vs)
+all-put {s} {vs} at h g = record { all = bytes-put s at vs (h .all) (g .all) }
+
+all-part : {s : List ℕ} (at k : ℕ) → AllBytes s → AllBytes (part s at k)
+all-part {s} at k h = record { all = bytes-part s at k (h .all) }
+
+all-trailer : (place altered : ℕ) {old : List ℕ} (before previous : ℕ) → AllBytes old → AllBytes (trailer place altered old before previous)
+unfolding trailer
+all-trailer place altered before previous h =
+    all-number 4 place then all-number 4 altered then h then all-number 4 before then all-number 4 previous then all-number 4 closing
+
+all-slot : (tag ref offset size : ℕ) → AllBytes (slotBytes tag ref offset size)
+unfolding slotBytes
+all-slot tag ref offset size = all-number 2 tag then all-number 2 ref then all-number 4 offset then all-number 4 size
+
+all-free : AllBytes freeSlot
+unfolding freeSlot
+all-free = all-slot free-tag 0 0 0
+
+all-frees : (k : ℕ) → AllBytes (freeSlots k)
+unfolding freeSlots
+all-frees zero = record { all = bytes-nil }
+all-frees (suc k) = all-free then all-frees k
+
+all-block : {slot : List ℕ} → AllBytes slot → AllBytes (newBlock slot)
+unfolding newBlock
+all-block h = all-number 2 block-slots then all-number 4 0 then h then all-frees 15
+
+pub bytes-free : Bytes freeSlot
+bytes-free = all-free .all
+
+pub bytes-data : (tag ref : ℕ) (content : List ℕ) (at : ℕ) → Bytes (dataSlot tag ref content at)
+unfolding dataSlot
+bytes-data tag ref content at = all-slot tag ref (dataOffset content at) (length content) .all
+
+-- ---- The file after an edit
+
+all-slot-edit : {s slot content : List ℕ} (p : ℕ) → AllBytes s → AllBytes slot → AllBytes content → AllBytes (slotEdit s p slot content)
+unfolding slotEdit
+all-slot-edit {s} p h g c = all-put p h g then c then all-trailer p 12 (length s) (previousOf s) (all-part p 12 h)
+
+all-block-edit : {s block content : List ℕ} (b : ℕ) → AllBytes s → AllBytes block → AllBytes content → AllBytes (blockEdit s b block content)
+unfolding blockEdit
+all-block-edit {s} b h g c =
+    all-put (b + 2) h (all-number 4 (length s)) then g then c
+    then all-trailer (b + 2) 4 (length s) (previousOf s) (all-part (b + 2) 4 h then record { all = bytes-zeros 8 })
+
+module _ (s : List ℕ) (p : ℕ) (slot content : List ℕ) (h : Bytes s) (g : Bytes slot) (c : Bytes content) where
+  pub bytes-slot-edit : Bytes (slotEdit s p slot content)
+  bytes-slot-edit =
+      let e : AllBytes (slotEdit s p slot content) = all-slot-edit p (record { all = h }) (record { all = g }) (record { all = c }) in
+      e .all
+
+  pub bytes-block-edit : Bytes (blockEdit s p (newBlock slot) content)
+  bytes-block-edit =
+      let e : AllBytes (blockEdit s p (newBlock slot) content) =
+      all-block-edit p (record { all = h }) (all-block (record { all = g })) (record { all = c }) in
+      e .all

@@ -1,0 +1,227 @@
+-- An edit that appends a block: the file that it makes is framed by the file before, with free slots besides, and undo takes it back.
+-- Assumes nothing.
+use Prim.Native.Nat.{ℕ, zero, suc, _+_, _*_, _≤_, _<_}
+use mathlib.Core.Path.{_≡_, refl, ap, _∙_}
+use mathlib.Core.Logic.{_⊎_, inl, inr}
+use mathlib.Core.List.{List, [], _∷_, _++_, append-assoc, append-nil}
+use native.Mathlib.Omega.{arith}
+use lib.ListN.{length, getD, replicate, length-append}
+use Rattle.wire.specs.Numbers.{bytes, put, part}
+use Rattle.wire.proofs.Numbers.{Same, Holds, length-bytes, be-same, be-holds}
+use Rattle.directory.specs.Limits.{most-blocks, most-slots, free-tag}
+use Rattle.directory.specs.Blocks.{slotCount, nextBlock, blockEnd}
+use Rattle.directory.specs.Slots.{tagAt, rows, slotPlaces}
+use Rattle.directory.specs.Room.{lastOf}
+use Rattle.directory.specs.Rules.{In, Pairwise, Apart, Linked, Kept}
+use Rattle.directory.proofs.Tests.{in-left, in-right, in-append, in-snoc, same?, pairwise-snoc}
+use Rattle.directory.proofs.Blocks.{length-rows, slots-append}
+use Rattle.directory.proofs.Rules.{BlocksKept, chain-kept, kept-blocks, kept-opens}
+use Rattle.journal.specs.Edit.{block-slots, block-size, freeSlot, freeSlots, newBlock, blockEdit}
+use Rattle.journal.proofs.Parts.{holds-left, holds-right, be-last, length-part}
+use Rattle.journal.proofs.Spacing.{blocks-two, blocks-distinct, slot-inside, header-clear}
+use Rattle.journal.proofs.Frames.{slot-same, places-same, blocks-same, Framed}
+use Rattle.journal.proofs.Written.{length-free, free-reads, Writes}
+use Rattle.journal.proofs.Changes.{Changed, changed, next-known, changed-undone}
+
+-- ---- The last block
+
+linked-last : (s : List ℕ) (d : ℕ) (bs : List ℕ) → Linked s bs → In (lastOf d bs) bs
+unfolding lastOf
+linked-last s d [] l = absurd l
+linked-last s d (b ∷ []) l = inl refl
+linked-last s d (b ∷ (c ∷ bs)) l = inr (linked-last s b (c ∷ bs) (l .1))
+
+linked-first : (s bs cs : List ℕ) → Linked s bs → getD (bs ++ cs) 0 0 ≡ getD bs 0 0
+linked-first s [] cs l = absurd l
+linked-first s (b ∷ bs) cs l = refl
+
+-- the chain with one more block at e
+linked-more : (s t : List ℕ) (d : ℕ) (bs : List ℕ) (e : ℕ) → ((c : ℕ) → In c bs → (c ≡ lastOf d bs → ⊥) → nextBlock t c ≡ nextBlock s c)
+    → nextBlock t (lastOf d bs) ≡ e → nextBlock t e ≡ 0 → Pairwise (λ b c. b ≡ c → ⊥) bs → Linked s bs → Linked t (bs ++ (e ∷ []))
+unfolding lastOf
+linked-more s t d [] e same last ends p l = absurd l
+linked-more s t d (b ∷ []) e same last ends p l = (last, ends)
+linked-more s t d (b ∷ (c ∷ bs)) e same last ends p l = (
+  same b (inl refl) (λ q. p .0 (lastOf c bs) (linked-last s b (c ∷ bs) (l .1)) q) ∙ l .0,
+  linked-more s t b (c ∷ bs) e (λ x i. same x (inr i)) last ends (p .1) (l .1),
+)
+
+-- ---- The new block
+
+length-frees : (k : ℕ) → length (freeSlots k) ≡ 12 * k
+unfolding freeSlots
+length-frees zero = refl
+length-frees (suc k) = length-append freeSlot (freeSlots k) ∙ rw (length-free, length-frees k) (omega arith)
+
+length-block : (slot : List ℕ) → length slot ≡ 12 → length (newBlock slot) ≡ block-size
+unfolding newBlock
+length-block slot n = simp (length-append, length-bytes, n, length-frees)
+
+frees-read : (t : List ℕ) (a k : ℕ) → Holds t a (freeSlots k) → (q : ℕ) → In q (rows a k) → tagAt t q ≡ free-tag
+unfolding freeSlots rows
+frees-read t a zero h q i = absurd i
+frees-read t a (suc k) h q (inl e) = rw e (free-reads t a (holds-left t a freeSlot (freeSlots k) h))
+frees-read t a (suc k) h q (inr i) = frees-read t (a + 12) k (holds-right t a 12 freeSlot (freeSlots k) length-free h) q i
+
+-- a block at e of which the first slot is written and the others are free, and that ends the chain
+record BlockReads (t : List ℕ) (e : ℕ) (slot : List ℕ) : Type 0 where
+  count : slotCount t e ≡ block-slots
+  next : nextBlock t e ≡ 0
+  slot-held : Holds t (e + 6) slot
+  others : (q : ℕ) → In q (rows (e + 6 + 12) 15) → tagAt t q ≡ free-tag
+
+block-reads : (t : List ℕ) (e : ℕ) (slot : List ℕ) → length slot ≡ 12 → Holds t e (newBlock slot) → BlockReads t e slot
+unfolding newBlock
+block-reads t e slot n h =
+    let t₁ = bytes 2 block-slots in
+    let t₂ = t₁ ++ bytes 4 0 in
+    let t₃ = t₂ ++ slot in
+    let h₃ = holds-left t e t₃ (freeSlots 15) h in
+    let h₂ = holds-left t e t₂ slot h₃ in
+    let h₁ = holds-left t e t₁ (bytes 4 0) h₂ in
+    let w : e + 6 + 12 ≡ e + 18 = omega arith in
+    record {
+      count = be-holds 2 t e block-slots (omega arith) h₁;
+      next = be-last 4 t e 2 t₁ 0 (length-bytes 2 block-slots) (omega arith) h₂;
+      slot-held = holds-right t e 6 t₂ slot (simp (length-append, length-bytes)) h₃;
+      others = rw w (frees-read t (e + 18) 15 (holds-right t e 18 t₃ (freeSlots 15) (simp (length-append, length-bytes, n)) h));
+    }
+
+rows-first : (p k q : ℕ) → In q (rows p (suc k)) → (q ≡ p) ⊎ In q (rows (p + 12) k)
+unfolding rows
+rows-first p k q i = i
+
+first-row : (p k : ℕ) → In p (rows p (suc k))
+unfolding rows
+first-row p k = inl refl
+
+-- ---- A file with a block behind, linked from the last one
+
+module _ (s bs : List ℕ) (k : Kept s bs) (t slot : List ℕ) (grown : length s + block-size ≤ length t)
+    (low : Same s t 0 (lastOf 4 bs + 2)) (high : Same s t (lastOf 4 bs + 6) (length s)) (link : nextBlock t (lastOf 4 bs) ≡ length s)
+    (new : BlockReads t (length s) slot) (few : length bs < most-blocks) (room : length (slotPlaces s bs) + block-slots ≤ most-slots) where
+  last-in : In (lastOf 4 bs) bs
+  last-in = linked-last s 4 bs (k .linked)
+
+  -- a block's slot count stays, and its next field but for the last block
+  apart-same : (c : ℕ) → In c bs → (c ≡ lastOf 4 bs → ⊥) → Same s t c (c + 6)
+  apart-same c i n =
+      elim (blocks-two s bs (chain-kept s bs k .blocks) c (lastOf 4 bs) i last-in) [
+        | inl e ↦ absurd (n e)
+        | inr a ↦ elim a [
+          | inl h ↦ λ j l u. low j (omega arith) (omega arith)
+          | inr h ↦ λ j l u. high j (omega arith) (omega (arith, k .inside c i))
+        ]
+      ]
+
+  count-same : (c : ℕ) → In c bs → slotCount t c ≡ slotCount s c
+  count-same c i =
+      elim (same? c (lastOf 4 bs)) [
+        | inl e ↦ be-same 2 s t c (λ j l u. low j (omega arith) (omega arith))
+        | inr n ↦ be-same 2 s t c (λ j l u. apart-same c i n j l (omega arith))
+      ]
+
+  next-same : (c : ℕ) → In c bs → (c ≡ lastOf 4 bs → ⊥) → nextBlock t c ≡ nextBlock s c
+  next-same c i n = be-same 4 s t (c + 2) (λ j l u. apart-same c i n j (omega arith) (omega arith))
+
+  places-are : slotPlaces t (bs ++ (length s ∷ [])) ≡ slotPlaces s bs ++ rows (length s + 6) block-slots
+  unfolding slotPlaces
+  places-are =
+      slots-append t bs (length s ∷ []) ∙ rw (places-same s t bs count-same, new .count, append-nil)
+
+  ten : 10 ≤ length s
+  ten = omega (arith, k .inside (lastOf 4 bs) last-in, k .after-header (lastOf 4 bs) last-in)
+
+  blocks-more : BlocksKept t (bs ++ (length s ∷ []))
+  blocks-more =
+      let m = blocks-same s t bs (omega arith) count-same (chain-kept s bs k .blocks) in
+      let end : blockEnd t (length s) ≡ length s + block-size = rw (new .count) (omega arith) in
+      record {
+        few-blocks = omega (arith, length-append bs (length s ∷ []));
+        few-slots = rw (places-are, length-append, length-rows) room;
+        inside = λ b i. elim (in-snoc b bs (length s) i) [ inl j ↦ m .inside b j | inr e ↦ rw (e, end) grown ];
+        after-header = λ b i. elim (in-snoc b bs (length s) i) [ inl j ↦ m .after-header b j | inr e ↦ omega (arith, ten) ];
+        apart =
+            pairwise-snoc (λ b c. Apart b (blockEnd t b) c (blockEnd t c)) bs (length s) .1
+            (m .apart, λ b i. inl (omega (arith, count-same b i, k .inside b i)));
+      }
+
+  block-framed : Framed s bs t (bs ++ (length s ∷ [])) (length s + 6)
+  block-framed =
+      let blocks = chain-kept s bs k .blocks in
+      let b = lastOf 4 bs in
+      let after = k .after-header b last-in in
+      record {
+        grown = omega arith;
+        header = be-same 4 s t 0 (λ j l u. low j l (omega arith));
+        chain = record {
+          first = linked-first s bs (length s ∷ []) (k .linked) ∙ k .first;
+          linked = linked-more s t 4 bs (length s) next-same link (new .next) (blocks-distinct s bs blocks) (k .linked);
+          blocks = blocks-more;
+        };
+        blocks = λ c i. elim (in-snoc c bs (length s) i) [ inl j ↦ inl (j, rw (count-same c j)) | inr e ↦ inr (omega arith) ];
+        stays = λ p i n. (
+          rw places-are (in-left p (slotPlaces s bs) (rows (length s + 6) block-slots) i),
+          let r = slot-inside s bs blocks p i in
+              slot-same s t p (elim (header-clear s bs blocks p b i last-in) [
+                | inl h ↦ λ j l u. high j (omega arith) (omega arith)
+                | inr h ↦ λ j l u. low j (omega arith) (omega arith)
+              ]),
+        );
+        others = λ p i l n. elim (in-append p (slotPlaces s bs) (rows (length s + 6) block-slots) (rw places-are at i)) [
+          | inl j ↦ j
+          | inr j ↦ elim (rows-first (length s + 6) 15 p j) [ inl e ↦ absurd (n e) | inr h ↦ absurd (l (new .others p h)) ]
+        ];
+        off = λ a e n h. elim (h b last-in) [
+          | inl m ↦ λ j l u. low j (omega arith) (omega arith)
+          | inr m ↦ λ j l u. high j (omega arith) (omega arith)
+        ];
+      }
+
+-- ---- The edit
+
+module _ (s bs : List ℕ) (k : Kept s bs) (slot content : List ℕ) (twelve : length slot ≡ 12)
+    (few : length bs < most-blocks) (room : length (slotPlaces s bs) + block-slots ≤ most-slots) where
+  edit-changed : let t = blockEdit s (lastOf 4 bs) (newBlock slot) content in
+      Changed s (lastOf 4 bs + 2) 4 (replicate 8 0) (newBlock slot ++ content) t × Holds t (lastOf 4 bs + 2) (bytes 4 (length s))
+  unfolding blockEdit
+  edit-changed =
+      let b = lastOf 4 bs in
+      rw (append-assoc (put s (b + 2) (bytes 4 (length s))) (newBlock slot) content)
+      (changed s (b + 2) 4 (bytes 4 (length s)) (replicate 8 0) (newBlock slot ++ content) (length-bytes 4 (length s))
+      (omega (arith, k .inside b (linked-last s 4 bs (k .linked)))) (k .short) refl)
+
+  pub block-edit-writes : let t = blockEdit s (lastOf 4 bs) (newBlock slot) content in
+      Writes s bs t (bs ++ (length s ∷ [])) (length s + 6) slot content (length s + block-size)
+  block-edit-writes =
+      let b = lastOf 4 bs in
+      let t = blockEdit s b (newBlock slot) content in
+      let c = edit-changed .0 in
+      let last = linked-last s 4 bs (k .linked) in
+      let inside : b + 2 + 4 ≤ length s = omega (arith, k .inside b last) in
+      let six : b + 2 + 4 ≡ b + 6 = omega arith in
+      let more : length (newBlock slot ++ content) ≡ block-size + length content =
+      length-append (newBlock slot) content ∙ rw (length-block slot twelve) in
+      let grown : length s + block-size ≤ length t = omega (arith, c .size) in
+      let high : Same s t (b + 6) (length s) = rw six at (c .high) in
+      let link : nextBlock t b ≡ length s = be-holds 4 t (b + 2) (length s) (omega (arith, k .short)) (edit-changed .1) in
+      let new : BlockReads t (length s) slot = block-reads t (length s) slot twelve (holds-left t (length s) (newBlock slot) content (c .more)) in
+      let same = places-are s bs k t slot grown (c .low) high link new few room in
+      record {
+        framed = block-framed s bs k t slot grown (c .low) high link new few room;
+        here = rw same (in-right (length s + 6) (slotPlaces s bs) (rows (length s + 6) block-slots) (first-row (length s + 6) 15));
+        slot-held = new .slot-held;
+        content-held = holds-right t (length s) block-size (newBlock slot) content (length-block slot twelve) (c .more);
+        size = omega (arith, c .size);
+        after-header = omega (arith, k .headed .0);
+        past = λ d i. elim (in-snoc d bs (length s) i) [
+          | inl j ↦ omega (arith, count-same s bs k t slot grown (c .low) high link new few room d j, k .inside d j)
+          | inr e ↦ rw (e, new .count) (omega arith)
+        ];
+        back = λ before m.
+            changed-undone s (b + 2) 4 (replicate 8 0) (newBlock slot ++ content) t c inside (omega arith)
+            (omega (arith, k .inside b last, k .after-header b last)) before
+            (ap (λ a. a .number) (kept-opens t (bs ++ (length s ∷ [])) m))
+            (next-known t (length s + length (newBlock slot ++ content)) b (part s (b + 2) 4)
+            (rw (kept-blocks t (bs ++ (length s ∷ [])) m) (in-left b bs (length s ∷ []) last)) (length-part s (b + 2) 4 inside) (c .trail .old-held));
+      }

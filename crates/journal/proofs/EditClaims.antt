@@ -1,0 +1,132 @@
+-- The claims about edits: what is read of the file after one, what of it is as before, that it opens, and its length. Assumes nothing.
+use Prim.Native.Nat.{ℕ, _<_}
+use mathlib.Core.Path.{_≡_, sym, _∙_}
+use mathlib.Core.Logic.{inl, inr}
+use mathlib.Core.List.{List}
+use native.Mathlib.Omega.{arith}
+use lib.ListN.{length}
+use Rattle.wire.specs.Numbers.{part}
+use Rattle.directory.specs.Limits.{ABSENT}
+use Rattle.directory.specs.Answer.{refuse}
+use Rattle.directory.specs.Slots.{tagAt, offsetAt, sizeAt, elementEnd, contentAt, slotsOf}
+use Rattle.directory.specs.Opening.{openOf}
+use Rattle.directory.specs.Lookup.{findOf}
+use Rattle.directory.specs.Rules.{In, Live}
+use Rattle.directory.specs.Named.{Named}
+use Rattle.directory.proofs.Tests.{same?, zero?}
+use Rattle.directory.proofs.Rules.{opens-kept, kept-blocks}
+use Rattle.directory.proofs.Claims.{find-finds, find-found, find-absent}
+use Rattle.journal.specs.Outcome.{granted}
+use Rattle.journal.specs.Edit.{addTo, replaceIn, removeFrom}
+use Rattle.journal.specs.History.{Edit, add, replace, remove, edit, Typed, edited}
+use Rattle.journal.specs.EditRules.{ReadsBack, PairKept, tagOf, refOf, contentOf, OtherPair, lengthAfter}
+use Rattle.journal.proofs.Parts.{part-same}
+use Rattle.journal.proofs.Written.{filled-content}
+use Rattle.journal.proofs.Edits.{Made, Fills, made, made-opens, added, replaced, removed}
+
+-- ---- Slots other than the one that was written
+
+module _ (s : List ℕ) (capacity : ℕ) (e : Edit) (t : List ℕ) (m : Made s capacity e t) where
+  named-before : (tag ref p : ℕ) → (p ≡ m .slot → ⊥) → Named t tag ref p → Named s tag ref p
+  unfolding slotsOf
+  named-before tag ref p d n =
+      let i = m .framed .others p (rw (kept-blocks t (m .blocks) (m .kept)) at (n .slot)) (n .live) d in
+      let same = m .framed .stays p i d .1 in
+      record { slot = i; live = rw (same .tag) at (n .live); tag = rw (same .tag) at (n .tag); reference = rw (same .ref) at (n .reference) }
+
+  named-after : (tag ref p : ℕ) → (p ≡ m .slot → ⊥) → Named s tag ref p → Named t tag ref p
+  unfolding slotsOf
+  named-after tag ref p d n =
+      let k = m .framed .stays p (n .slot) d in
+      let same = k .1 in
+      record {
+        slot = rw (kept-blocks t (m .blocks) (m .kept)) (k .0);
+        live = rw (same .tag) (n .live);
+        tag = rw (same .tag) (n .tag);
+        reference = rw (same .ref) (n .reference);
+      }
+
+  tag-after : (p : ℕ) → In p (slotsOf s) → (p ≡ m .slot → ⊥) → tagAt t p ≡ tagAt s p
+  unfolding slotsOf
+  tag-after p i d = m .framed .stays p i d .1 .tag
+
+  content-after : (p : ℕ) → In p (slotsOf s) → Live s p → (p ≡ m .slot → ⊥) → contentAt t p ≡ contentAt s p
+  unfolding slotsOf contentAt part
+  content-after p i l d =
+      let same = m .framed .stays p i d .1 in
+      let o = opens-kept s (m .opened) .elements p i l in
+      rw (same .offset, same .size) (elim (zero? (sizeAt s p)) [
+        | inl z ↦ rw z
+        | inr n ↦
+            let sized : 0 < sizeAt s p = omega (arith, n .1) in
+            part-same s t (offsetAt s p) (sizeAt s p) (o .inside sized) (m .framed .grown)
+            (m .framed .off (offsetAt s p) (elementEnd s p) (o .inside sized) (o .off-blocks sized))
+      ])
+
+  -- no slot has the edit's pair and another one
+  other-pair : (tag ref : ℕ) → OtherPair e tag ref → (x : List ℕ) (p : ℕ) → Named x tag ref p → Named x (tagOf e) (refOf e) p → ⊥
+  other-pair tag ref other x p n k = elim other [ inl d ↦ d (sym (n .tag) ∙ k .tag) | inr d ↦ d (sym (n .reference) ∙ k .reference) ]
+
+  pair-kept : (tag ref : ℕ) → OtherPair e tag ref → PairKept s t tag ref
+  pair-kept tag ref other =
+      let differ = other-pair tag ref other in
+      record {
+        absent = λ h. find-absent t tag ref (made-opens m) .1 (λ p n. elim (same? p (m .slot)) [
+          | inl q ↦ differ t (m .slot) (rw q at n) (m .after (rw q at (n .live)))
+          | inr d ↦ find-absent s tag ref (m .opened) .0 h p (named-before tag ref p d n)
+        ]);
+        found = λ p h.
+            let n = find-found s tag ref p h .0 in
+            let d : p ≡ m .slot → ⊥ = λ q. differ s (m .slot) (rw q at n) (m .before (rw q at (n .slot)) (rw q at (n .live))) in
+            (find-finds t tag ref p (made-opens m) (named-after tag ref p d n), tag-after p (n .slot) d, content-after p (n .slot) (n .live) d);
+      }
+
+-- ---- The claims
+
+reads-back : (s : List ℕ) (capacity : ℕ) (e : Edit) (t : List ℕ) → Fills s capacity e t → ReadsBack t (tagOf e) (refOf e) (contentOf e)
+reads-back s capacity e t f =
+    let m = f .made in
+    record {
+      slot = m .slot;
+      found = find-finds t (tagOf e) (refOf e) (m .slot) (made-opens m) (m .after (f .filled .live));
+      tag-is = f .filled .tag-is;
+      content-is = filled-content t (m .slot) (tagOf e) (refOf e) (contentOf e) (f .at) (f .filled);
+    }
+
+-- an element that was added is found, under that tag itself, and reads as given
+pub added-reads : (s : List ℕ) (capacity tag ref : ℕ) (content t : List ℕ) → tag < 65536 → ref < 65536
+    → addTo s capacity tag ref content ≡ granted t → ReadsBack t tag ref content
+added-reads s capacity tag ref content t b₁ b₂ e =
+    reads-back s capacity (add tag ref content) t (added s capacity tag ref content t b₁ b₂ e)
+
+-- and so is one that was replaced
+pub replaced-reads : (s : List ℕ) (capacity tag ref : ℕ) (content t : List ℕ) → tag < 65536 → ref < 65536
+    → replaceIn s capacity tag ref content ≡ granted t → ReadsBack t tag ref content
+replaced-reads s capacity tag ref content t b₁ b₂ e =
+    reads-back s capacity (replace tag ref content) t (replaced s capacity tag ref content t b₁ b₂ e)
+
+-- an element that was removed is absent
+pub removed-absent : (s : List ℕ) (capacity tag ref : ℕ) (t : List ℕ) → removeFrom s capacity tag ref ≡ granted t
+    → findOf t tag ref ≡ refuse 1 ABSENT 0
+removed-absent s capacity tag ref t e =
+    let f = removed s capacity tag ref t e in
+    let m = f .made in
+    find-absent t tag ref (made-opens m) .1 (λ p n. elim (same? p (m .slot)) [
+      | inl q ↦ n .live (rw q (f .free))
+      | inr d ↦ d (m .only p (named-before s capacity (remove tag ref) t m tag ref p d n))
+    ])
+
+-- every other pair is as before: absent, or in the same slot with the same tag and the same bytes
+pub others-kept : (s : List ℕ) (capacity : ℕ) (e : Edit) (t : List ℕ) → Typed (edit e) → edited capacity e s ≡ granted t
+    → (tag ref : ℕ) → OtherPair e tag ref → PairKept s t tag ref
+others-kept s capacity e t y g = pair-kept s capacity e t (made s capacity e t y g)
+
+-- the file after a granted edit opens
+pub stays-accepted : (s : List ℕ) (capacity : ℕ) (e : Edit) (t : List ℕ) → Typed (edit e) → edited capacity e s ≡ granted t
+    → openOf t .number ≡ 0
+stays-accepted s capacity e t y g = made-opens (made s capacity e t y g)
+
+-- its length is the paper's
+pub new-length : (s : List ℕ) (capacity : ℕ) (e : Edit) (t : List ℕ) → Typed (edit e) → edited capacity e s ≡ granted t
+    → length t ≡ lengthAfter s e
+new-length s capacity e t y g = made s capacity e t y g .size

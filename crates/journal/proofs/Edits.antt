@@ -1,0 +1,257 @@
+-- What a granted edit makes of a file: one slot is filled or freed, the others stay, the file opens, and undo makes the file before of it.
+-- Assumes nothing.
+use Prim.Native.Nat.{ℕ, _+_, _≤_, _<_}
+use mathlib.Core.Path.{_≡_, refl, sym, ap, _∙_}
+use mathlib.Core.Logic.{inl, inr}
+use mathlib.Core.List.{List, [], _∷_, _++_}
+use mathlib.Core.Bool.{not, _||_}
+use native.Mathlib.Omega.{arith}
+use lib.ListN.{length, take}
+use lib.Dec.{leb, ltb}
+use borrow.Author.Tests.{leb-false, ltb-false, not-true}
+use Rattle.wire.specs.Numbers.{Bytes}
+use Rattle.directory.specs.Limits.{most-bytes, most-blocks, most-slots, free-tag, DIR-BIG, ABSENT}
+use Rattle.directory.specs.Search.{Hit, hit, miss}
+use Rattle.directory.specs.Blocks.{blocksOf}
+use Rattle.directory.specs.Slots.{tagAt, liveAt, slotsOf}
+use Rattle.directory.specs.Opening.{openOf}
+use Rattle.directory.specs.Room.{lastOf}
+use Rattle.directory.specs.Lookup.{find}
+use Rattle.directory.specs.Rules.{In, Live, Kept}
+use Rattle.directory.specs.Named.{Named}
+use Rattle.directory.proofs.Tests.{or-clear, picks, not-both}
+use Rattle.directory.proofs.Search.{first-hit}
+use Rattle.directory.proofs.Slots.{live-is}
+use Rattle.directory.proofs.Rules.{opens-kept, kept-blocks, kept-opens, chain-kept}
+use Rattle.directory.proofs.Named.{found-named, missed-named, named-once}
+use Rattle.journal.specs.Outcome.{Outcome, granted, refused}
+use Rattle.journal.specs.Trailer.{trailer-size}
+use Rattle.journal.specs.Edit.{PRESENT, block-slots, block-size, freeSlot, newBlock, dataSlot, slotEdit, blockEdit, fitted, addAt, addTo, replaceIn, removeFrom}
+use Rattle.journal.specs.Undo.{undoOf}
+use Rattle.journal.specs.Buffer.{putBack}
+use Rattle.journal.specs.History.{Edit, add, replace, remove, edit, Typed, edited}
+use Rattle.journal.specs.EditRules.{tagOf, refOf, contentOf, firstFree, addedAt, lengthAfter}
+use Rattle.journal.proofs.AllBytes.{bytes-free, bytes-data, bytes-slot-edit, bytes-block-edit}
+use Rattle.journal.proofs.Spacing.{slot-inside}
+use Rattle.journal.proofs.Frames.{Framed}
+use Rattle.journal.proofs.Outcomes.{refused-granted, hit-picks, Taken, tagged-granted, fitted-granted}
+use Rattle.journal.proofs.Undoing.{undone, undone-front}
+use Rattle.journal.proofs.Written.{length-free, length-data, free-reads, Filled, Writes, freed-kept, writes-filled, filled-kept}
+use Rattle.journal.proofs.SlotEdits.{slot-edit-writes}
+use Rattle.journal.proofs.BlockEdits.{block-edit-writes}
+
+-- ---- What an edit makes
+
+-- t is what the edit makes of s in a buffer of so many bytes: one slot alone is written, in s no other slot has the edit's pair, and where it
+-- is live, in s or in t, it has that pair
+pub record Made (s : List ℕ) (capacity : ℕ) (e : Edit) (t : List ℕ) : Type 0 where
+  pub blocks : List ℕ
+  pub slot : ℕ
+  pub opened : openOf s .number ≡ 0
+  pub framed : Framed s (blocksOf s) t blocks slot
+  pub kept : Kept t blocks
+  pub fits : length t ≤ capacity
+  pub size : length t ≡ lengthAfter s e
+  pub bytes : Bytes s → Bytes (contentOf e) → Bytes t
+  pub back : undoOf t ≡ granted s
+  pub before : In slot (slotsOf s) → Live s slot → Named s (tagOf e) (refOf e) slot
+  pub only : (p : ℕ) → Named s (tagOf e) (refOf e) p → p ≡ slot
+  pub after : Live t slot → Named t (tagOf e) (refOf e) slot
+
+-- that slot is filled with the edit's content, which stands at a place
+pub record Fills (s : List ℕ) (capacity : ℕ) (e : Edit) (t : List ℕ) : Type 0 where
+  pub made : Made s capacity e t
+  pub at : ℕ
+  pub filled : Filled t (made .slot) (tagOf e) (refOf e) (contentOf e) at
+
+-- that slot is freed
+pub record Frees (s : List ℕ) (capacity : ℕ) (e : Edit) (t : List ℕ) : Type 0 where
+  pub made : Made s capacity e t
+  pub free : tagAt t (made .slot) ≡ free-tag
+
+module _ (s : List ℕ) (capacity : ℕ) (e : Edit) (u t cs : List ℕ) (q : ℕ) (opens : openOf s .number ≡ 0) (granting : fitted capacity u ≡ granted t)
+    (before : In q (slotsOf s) → Live s q → Named s (tagOf e) (refOf e) q) (only : (p : ℕ) → Named s (tagOf e) (refOf e) p → p ≡ q) where
+  fills : (at : ℕ) → Writes s (blocksOf s) u cs q (dataSlot (tagOf e) (refOf e) (contentOf e) at) (contentOf e) at → Taken (tagOf e)
+      → tagOf e < 65536 → refOf e < 65536 → lengthAfter s e ≡ at + length (contentOf e) + trailer-size → (Bytes s → Bytes (contentOf e) → Bytes u)
+      → Fills s capacity e t
+  unfolding slotsOf
+  fills at w taken b₁ b₂ size bytes =
+      let g = fitted-granted capacity u t granting in
+      let f = writes-filled s (blocksOf s) u cs q (tagOf e) (refOf e) (contentOf e) at w (g .0) taken b₁ b₂ in
+      let kept = filled-kept s (blocksOf s) u cs q (tagOf e) (refOf e) (contentOf e) at w (g .0) taken b₁ b₂ (opens-kept s opens)
+      (λ p i n l x r. n (only p (record { slot = i; live = l; tag = x ∙ sym (taken .base); reference = r }))) in
+      rw (← g .2) (record {
+        made = record {
+          blocks = cs;
+          slot = q;
+          opened = opens;
+          framed = w .framed;
+          kept = kept;
+          fits = g .1;
+          size = w .size ∙ sym size;
+          bytes = bytes;
+          back = w .back opens kept;
+          before = before;
+          only = only;
+          after = λ l. record {
+            slot = rw (kept-blocks u cs kept) (w .here);
+            live = l;
+            tag = f .base-is ∙ sym (taken .base);
+            reference = f .ref-is;
+          };
+        };
+        at = at;
+        filled = f;
+      })
+
+  frees : Writes s (blocksOf s) u cs q freeSlot [] (length s) → lengthAfter s e ≡ length s + trailer-size → (Bytes s → Bytes u) → Frees s capacity e t
+  frees w size bytes =
+      let g = fitted-granted capacity u t granting in
+      let free = free-reads u q (w .slot-held) in
+      let kept = freed-kept s (blocksOf s) u cs q (length s) (opens-kept s opens) w (g .0) in
+      rw (← g .2) (record {
+        made = record {
+          blocks = cs;
+          slot = q;
+          opened = opens;
+          framed = w .framed;
+          kept = kept;
+          fits = g .1;
+          size = omega (arith, w .size);
+          bytes = λ h c. bytes h;
+          back = w .back opens kept;
+          before = before;
+          only = only;
+          after = λ l. absurd (l free);
+        };
+        free = free;
+      })
+
+-- ---- Each edit
+
+-- a slot of the file is filled
+fill-slot : (s : List ℕ) (capacity : ℕ) (e : Edit) (t : List ℕ) (q : ℕ) → openOf s .number ≡ 0 → Taken (tagOf e) → tagOf e < 65536 → refOf e < 65536
+    → In q (slotsOf s) → (Live s q → Named s (tagOf e) (refOf e) q) → ((p : ℕ) → Named s (tagOf e) (refOf e) p → p ≡ q)
+    → lengthAfter s e ≡ length s + length (contentOf e) + trailer-size
+    → fitted capacity (slotEdit s q (dataSlot (tagOf e) (refOf e) (contentOf e) (length s)) (contentOf e)) ≡ granted t → Fills s capacity e t
+unfolding slotsOf
+fill-slot s capacity e t q opens taken b₁ b₂ i before only size g =
+    let content = contentOf e in
+    let slot = dataSlot (tagOf e) (refOf e) content (length s) in
+    fills s capacity e (slotEdit s q slot content) t (blocksOf s) q opens g (λ j. before) only (length s)
+    (slot-edit-writes s (blocksOf s) (opens-kept s opens) q i slot content (length-data (tagOf e) (refOf e) content (length s))) taken b₁ b₂ size
+    (λ h c. bytes-slot-edit s q slot content h (bytes-data (tagOf e) (refOf e) content (length s)) c)
+
+pub replaced : (s : List ℕ) (capacity tag ref : ℕ) (content t : List ℕ) → tag < 65536 → ref < 65536 → replaceIn s capacity tag ref content ≡ granted t
+    → Fills s capacity (replace tag ref content) t
+unfolding replaceIn lengthAfter
+replaced s capacity tag ref content t b₁ b₂ e =
+    let g = tagged-granted s tag _ t e in
+    let make : ℕ → Outcome = λ p. fitted capacity (slotEdit s p (dataSlot tag ref content (length s)) content) in
+    elim (hit-picks (find s tag ref) make (refused ABSENT 0) (granted t) (g .2)) [
+      | inr h ↦ absurd (refused-granted _ _ t (h .1))
+      | inl h ↦
+          let n = found-named s tag ref (h .0) (h .1) in
+          fill-slot s capacity (replace tag ref content) t (h .0) (g .0) (g .1) b₁ b₂ (n .slot) (λ l. n)
+          (λ p m. named-once s tag ref p (h .0) (g .0) m n) refl (h .2)
+    ]
+
+pub removed : (s : List ℕ) (capacity tag ref : ℕ) (t : List ℕ) → removeFrom s capacity tag ref ≡ granted t → Frees s capacity (remove tag ref) t
+unfolding removeFrom lengthAfter slotsOf
+removed s capacity tag ref t e =
+    let g = tagged-granted s tag _ t e in
+    let make : ℕ → Outcome = λ p. fitted capacity (slotEdit s p freeSlot []) in
+    elim (hit-picks (find s tag ref) make (refused ABSENT 0) (granted t) (g .2)) [
+      | inr h ↦ absurd (refused-granted _ _ t (h .1))
+      | inl h ↦
+          let q = h .0 in
+          let n = found-named s tag ref q (h .1) in
+          frees s capacity (remove tag ref) (slotEdit s q freeSlot []) t (blocksOf s) q (g .0) (h .2) (λ i l. n)
+          (λ p m. named-once s tag ref p q (g .0) m n)
+          (slot-edit-writes s (blocksOf s) (opens-kept s (g .0)) q (n .slot) freeSlot [] length-free) refl
+          (λ x. bytes-slot-edit s q freeSlot [] x bytes-free (λ i. omega arith))
+    ]
+
+-- the first slot of a new block is filled
+fill-block : (s : List ℕ) (capacity : ℕ) (e : Edit) (t : List ℕ) → openOf s .number ≡ 0 → Taken (tagOf e) → tagOf e < 65536 → refOf e < 65536
+    → find s (tagOf e) (refOf e) ≡ miss → lengthAfter s e ≡ length s + block-size + length (contentOf e) + trailer-size
+    → addAt s capacity (tagOf e) (refOf e) (contentOf e) miss ≡ granted t → Fills s capacity e t
+unfolding addAt slotsOf
+fill-block s capacity e t opens taken b₁ b₂ f size g =
+    let content = contentOf e in
+    let at = length s + block-size in
+    let slot = dataSlot (tagOf e) (refOf e) content at in
+    let u = blockEdit s (lastOf 4 (blocksOf s)) (newBlock slot) content in
+    let k = opens-kept s opens in
+    let many = leb most-blocks (length (blocksOf s)) in
+    let full = ltb most-slots (length (slotsOf s) + block-slots) in
+    elim (picks (many || full) (refused DIR-BIG 0) (fitted capacity u) (granted t) g) [
+      | inl l ↦ absurd (refused-granted _ _ t (l .1))
+      | inr r ↦
+          let c = or-clear many full (r .0) in
+          fills s capacity e u t (blocksOf s ++ (length s ∷ [])) (length s + 6) opens (r .1)
+          (λ i l. let h = slot-inside s (blocksOf s) (chain-kept s (blocksOf s) k .blocks) (length s + 6) i in absurd (omega arith))
+          (λ p m. absurd (missed-named s (tagOf e) (refOf e) p f m)) at
+          (block-edit-writes s (blocksOf s) k slot content (length-data (tagOf e) (refOf e) content at) (leb-false _ _ (c .0)) (ltb-false _ _ (c .1)))
+          taken b₁ b₂ size (λ h d. bytes-block-edit s (lastOf 4 (blocksOf s)) slot content h (bytes-data (tagOf e) (refOf e) content at) d)
+    ]
+
+add-at : (s : List ℕ) (capacity tag ref : ℕ) (content t : List ℕ) (w : Hit) → firstFree s ≡ w → openOf s .number ≡ 0 → Taken tag → tag < 65536
+    → ref < 65536 → find s tag ref ≡ miss → addAt s capacity tag ref content w ≡ granted t → Fills s capacity (add tag ref content) t
+unfolding addAt addedAt lengthAfter
+add-at s capacity tag ref content t miss i opens taken b₁ b₂ f g =
+    fill-block s capacity (add tag ref content) t opens taken b₁ b₂ f (rw i) g
+add-at s capacity tag ref content t (hit q) i opens taken b₁ b₂ f g =
+    let h = first-hit (λ p. not (liveAt s p)) (slotsOf s) q i in
+    fill-slot s capacity (add tag ref content) t q opens taken b₁ b₂ (h .0)
+    (λ l. absurd (not-both (liveAt s q) (not-true _ (h .1)) (live-is s q .1 l))) (λ p m. absurd (missed-named s tag ref p f m)) (rw i) g
+
+pub added : (s : List ℕ) (capacity tag ref : ℕ) (content t : List ℕ) → tag < 65536 → ref < 65536 → addTo s capacity tag ref content ≡ granted t
+    → Fills s capacity (add tag ref content) t
+unfolding addTo
+added s capacity tag ref content t b₁ b₂ e =
+    let g = tagged-granted s tag _ t e in
+    let make = addAt s capacity tag ref content (firstFree s) in
+    elim (hit-picks (find s tag ref) (λ p. refused PRESENT 0) make (granted t) (g .2)) [
+      | inl h ↦ absurd (refused-granted _ _ t (h .2))
+      | inr h ↦ add-at s capacity tag ref content t (firstFree s) refl (g .0) (g .1) b₁ b₂ (h .0) (h .1)
+    ]
+
+pub made : (s : List ℕ) (capacity : ℕ) (e : Edit) (t : List ℕ) → Typed (edit e) → edited capacity e s ≡ granted t → Made s capacity e t
+unfolding edited
+made s capacity (add tag ref content) t y g = added s capacity tag ref content t (y .0) (y .1) g .made
+made s capacity (replace tag ref content) t y g = replaced s capacity tag ref content t (y .0) (y .1) g .made
+made s capacity (remove tag ref) t y g = removed s capacity tag ref t g .made
+
+pub made-opens : {s : List ℕ} {capacity : ℕ} {e : Edit} {t : List ℕ} → Made s capacity e t → openOf t .number ≡ 0
+made-opens {t} m = ap (λ a. a .number) (kept-opens t (m .blocks) (m .kept))
+
+-- ---- The round trip
+
+-- t opens, fits into a buffer of so many bytes, and undo makes s of it, as a file and in any buffer that begins with it
+pub record Undoes (s : List ℕ) (capacity : ℕ) (t : List ℕ) : Type 0 where
+  pub opens : openOf t .number ≡ 0
+  pub bytes : Bytes t
+  pub short : length t ≤ most-bytes
+  pub fits : length t ≤ capacity
+  pub back : undoOf t ≡ granted s
+  pub front : (buffer : List ℕ) → take (length t) buffer ≡ t → take (length s) (putBack buffer (length t) (granted s)) ≡ s
+
+typed-content : (e : Edit) → Typed (edit e) → Bytes (contentOf e)
+typed-content (add tag ref content) y = y .2
+typed-content (replace tag ref content) y = y .2
+typed-content (remove tag ref) y = λ i. omega arith
+
+-- undo makes the file before of the file that a granted edit makes
+pub undo-of-edit : (s : List ℕ) (capacity : ℕ) (e : Edit) (t : List ℕ) → Bytes s → Typed (edit e) → edited capacity e s ≡ granted t
+    → Undoes s capacity t
+undo-of-edit s capacity e t h y g =
+    let m = made s capacity e t y g in
+    record {
+      opens = made-opens m;
+      bytes = m .bytes h (typed-content e y);
+      short = m .kept .short;
+      fits = m .fits;
+      back = m .back;
+      front = undone-front t s (undone t s (m .back));
+    }

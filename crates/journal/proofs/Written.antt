@@ -1,0 +1,171 @@
+-- A slot as an edit writes it, as it is read: free, or filled with an element whose data stands past all blocks. Assumes nothing.
+use Prim.Native.Nat.{ℕ, _+_, _^_, _≤_, _<_}
+use mathlib.Core.Path.{_≡_, refl, sym, _∙_}
+use mathlib.Core.Logic.{inl, inr}
+use mathlib.Core.List.{List, [], _∷_, _++_}
+use native.Mathlib.Omega.{arith}
+use lib.ListN.{length, length-append}
+use borrow.Author.Tests.{ne-eqb}
+use Rattle.wire.specs.Numbers.{bytes, part}
+use Rattle.wire.proofs.Numbers.{Holds, length-bytes, be-holds}
+use Rattle.directory.specs.Limits.{most-bytes, free-tag, lone-tag}
+use Rattle.directory.specs.Blocks.{blockEnd}
+use Rattle.directory.specs.Slots.{tagAt, refAt, offsetAt, lengthAt, baseTag, sizeAt, contentAt, slotPlaces}
+use Rattle.directory.specs.Opening.{openOf}
+use Rattle.directory.specs.Rules.{In, Live, ElementKept, Clashing, Kept}
+use Rattle.directory.proofs.Tests.{on-false}
+use Rattle.journal.specs.Outcome.{granted}
+use Rattle.journal.specs.Trailer.{trailer-size}
+use Rattle.journal.specs.Undo.{undoOf}
+use Rattle.journal.specs.Edit.{slotBytes, freeSlot, dataOffset, dataSlot}
+use Rattle.journal.proofs.Parts.{holds-left, be-last, part-held}
+use Rattle.journal.proofs.Frames.{Framed, framed-kept}
+use Rattle.journal.proofs.Outcomes.{Taken}
+
+-- ---- The twelve bytes
+
+length-slot : (tag ref offset size : ℕ) → length (slotBytes tag ref offset size) ≡ 12
+unfolding slotBytes
+length-slot tag ref offset size = simp (length-append, length-bytes)
+
+pub length-free : length freeSlot ≡ 12
+unfolding freeSlot
+length-free = length-slot free-tag 0 0 0
+
+pub length-data : (tag ref : ℕ) (content : List ℕ) (at : ℕ) → length (dataSlot tag ref content at) ≡ 12
+unfolding dataSlot
+length-data tag ref content at = length-slot tag ref (dataOffset content at) (length content)
+
+-- the slot at q as it is read
+record SlotReads (t : List ℕ) (q tag ref offset size : ℕ) : Type 0 where
+  tag-read : tagAt t q ≡ tag
+  ref-read : refAt t q ≡ ref
+  offset-read : offsetAt t q ≡ offset
+  length-read : lengthAt t q ≡ size
+
+slot-reads : (t : List ℕ) (q tag ref offset size : ℕ) → tag < 256 ^ 2 → ref < 256 ^ 2 → offset < 256 ^ 4 → size < 256 ^ 4
+    → Holds t q (slotBytes tag ref offset size) → SlotReads t q tag ref offset size
+unfolding slotBytes
+slot-reads t q tag ref offset size b₁ b₂ b₃ b₄ h =
+    let t₁ = bytes 2 tag in
+    let t₂ = t₁ ++ bytes 2 ref in
+    let t₃ = t₂ ++ bytes 4 offset in
+    let h₃ = holds-left t q t₃ (bytes 4 size) h in
+    let h₂ = holds-left t q t₂ (bytes 4 offset) h₃ in
+    let h₁ = holds-left t q t₁ (bytes 2 ref) h₂ in
+    record {
+      tag-read = be-holds 2 t q tag b₁ h₁;
+      ref-read = be-last 2 t q 2 t₁ ref (length-bytes 2 tag) b₂ h₂;
+      offset-read = be-last 4 t q 4 t₂ offset (simp (length-append, length-bytes)) b₃ h₃;
+      length-read = be-last 4 t q 8 t₃ size (simp (length-append, length-bytes)) b₄ h;
+    }
+
+-- ---- A free slot
+
+pub free-reads : (t : List ℕ) (q : ℕ) → Holds t q freeSlot → tagAt t q ≡ free-tag
+unfolding freeSlot
+free-reads t q h = slot-reads t q free-tag 0 0 0 (omega arith) (omega arith) (omega arith) (omega arith) h .tag-read
+
+-- ---- A filled slot
+
+offset-le : (content : List ℕ) (at : ℕ) → dataOffset content at ≤ at
+unfolding dataOffset
+offset-le [] at = omega arith
+offset-le (x ∷ xs) at = omega arith
+
+offset-is : (content : List ℕ) (at : ℕ) → 0 < length content → dataOffset content at ≡ at
+unfolding dataOffset
+offset-is [] at h = absurd (omega arith)
+offset-is (x ∷ xs) at h = refl
+
+-- the slot at q has the tag and the reference, and its element is the content, which stands at a place
+pub record Filled (t : List ℕ) (q tag ref : ℕ) (content : List ℕ) (at : ℕ) : Type 0 where
+  pub tag-is : tagAt t q ≡ tag
+  pub live : Live t q
+  pub base-is : baseTag (tagAt t q) ≡ tag
+  pub ref-is : refAt t q ≡ ref
+  pub size-is : sizeAt t q ≡ length content
+  pub offset-is : 0 < length content → offsetAt t q ≡ at
+  pub held : Holds t at content
+  pub inside : at + length content ≤ length t
+
+filled : (t : List ℕ) (q tag ref : ℕ) (content : List ℕ) (at : ℕ) → Taken tag → tag < 65536 → ref < 65536 → at + length content < 256 ^ 4
+    → Holds t q (dataSlot tag ref content at) → Holds t at content → at + length content ≤ length t → Filled t q tag ref content at
+unfolding dataSlot sizeAt
+filled t q tag ref content at taken b₁ b₂ b₃ h held inside =
+    let r = slot-reads t q tag ref (dataOffset content at) (length content) b₁ b₂ (omega (arith, offset-le content at)) (omega arith) h in
+    let base : baseTag (tagAt t q) ≡ tag = rw (r .tag-read) (taken .base) in
+    record {
+      tag-is = r .tag-read;
+      live = λ e. taken .not-free (sym (r .tag-read) ∙ e);
+      base-is = base;
+      ref-is = r .ref-read;
+      size-is = on-false _ _ _ (ne-eqb _ lone-tag (λ e. taken .not-lone (sym base ∙ e))) ∙ r .length-read;
+      offset-is = λ z. r .offset-read ∙ offset-is content at z;
+      held = held;
+      inside = inside;
+    }
+
+part-filled : (t : List ℕ) (a : ℕ) (content : List ℕ) (at : ℕ) → (0 < length content → a ≡ at) → Holds t at content → at + length content ≤ length t
+    → part t a (length content) ≡ content
+unfolding part
+part-filled t a [] at e h n = refl
+part-filled t a (x ∷ xs) at e h n = rw (e (omega arith)) (part-held t at (length (x ∷ xs)) (x ∷ xs) n refl h)
+
+module _ (t : List ℕ) (q tag ref : ℕ) (content : List ℕ) (at : ℕ) (f : Filled t q tag ref content at) where
+  pub filled-content : contentAt t q ≡ content
+  unfolding contentAt
+  filled-content = rw (f .size-is) (part-filled t (offsetAt t q) content at (f .offset-is) (f .held) (f .inside))
+
+  filled-element : (bs : List ℕ) → Taken tag → 4 ≤ at → ((b : ℕ) → In b bs → blockEnd t b ≤ at) → ElementKept t bs q
+  filled-element bs taken four past =
+      let z : 0 < sizeAt t q → offsetAt t q ≡ at = λ h. f .offset-is (rw (f .size-is) at h) in
+      record {
+        tag = rw (f .base-is) (taken .not-zero);
+        not-free = rw (f .tag-is) (taken .not-extended-free);
+        inside = λ h. omega (arith, z h, f .size-is, f .inside);
+        after-header = λ h. omega (arith, z h);
+        off-blocks = λ h b i. inr (omega (arith, z h, past b i));
+      }
+
+  -- a slot that clashes with it has its base tag and its reference
+  filled-clash : (p : ℕ) → Taken tag → Clashing t p q → (baseTag (tagAt t p) ≡ tag) × (refAt t p ≡ ref)
+  filled-clash p taken c = (
+    c .0 ∙ f .base-is,
+    elim (c .1) [ inl e ↦ absurd (taken .not-lone (sym (f .base-is) ∙ (sym (c .0) ∙ e))) | inr e ↦ e ∙ f .ref-is ],
+  )
+
+-- ---- A file with such a slot
+
+-- t, whose blocks stand at cs, is s with a slot written at q and content at a place past all blocks; undo makes s of it if it opens
+pub record Writes (s bs t cs : List ℕ) (q : ℕ) (slot content : List ℕ) (at : ℕ) : Type 0 where
+  pub framed : Framed s bs t cs q
+  pub here : In q (slotPlaces t cs)
+  pub slot-held : Holds t q slot
+  pub content-held : Holds t at content
+  pub size : length t ≡ at + length content + trailer-size
+  pub after-header : 4 ≤ at
+  pub past : (b : ℕ) → In b cs → blockEnd t b ≤ at
+  pub back : openOf s .number ≡ 0 → Kept t cs → undoOf t ≡ granted s
+
+-- with a free slot it keeps the rules
+pub freed-kept : (s bs t cs : List ℕ) (q at : ℕ) → Kept s bs → Writes s bs t cs q freeSlot [] at → length t ≤ most-bytes → Kept t cs
+freed-kept s bs t cs q at k w short =
+    let free = free-reads t q (w .slot-held) in
+    framed-kept s bs t cs q k (w .framed) short (λ l. absurd (l free)) (λ l. absurd (l free))
+
+module _ (s bs t cs : List ℕ) (q tag ref : ℕ) (content : List ℕ) (at : ℕ) (w : Writes s bs t cs q (dataSlot tag ref content at) content at)
+    (short : length t ≤ most-bytes) (taken : Taken tag) (b₁ : tag < 65536) (b₂ : ref < 65536) where
+  pub writes-filled : Filled t q tag ref content at
+  writes-filled = filled t q tag ref content at taken b₁ b₂ (omega (arith, w .size)) (w .slot-held) (w .content-held) (omega (arith, w .size))
+
+  -- with a filled slot it keeps the rules, if no other live slot of s has the tag and the reference
+  pub filled-kept : Kept s bs
+      → ((p : ℕ) → In p (slotPlaces s bs) → (p ≡ q → ⊥) → Live s p → baseTag (tagAt s p) ≡ tag → refAt s p ≡ ref → ⊥) → Kept t cs
+  filled-kept k alone =
+      let f = writes-filled in
+      framed-kept s bs t cs q k (w .framed) short (λ l. filled-element t q tag ref content at f cs taken (w .after-header) (w .past))
+      (λ l p i n m c.
+      let e = w .framed .stays p i n .1 in
+      let r = filled-clash t q tag ref content at f p taken c in
+      alone p i n (rw (e .tag) at m) (rw (e .tag) at (r .0)) (rw (e .ref) at (r .1)))

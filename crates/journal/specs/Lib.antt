@@ -1,0 +1,10 @@
+pub mod Outcome
+pub mod Trailer
+pub mod Edit
+pub mod Undo
+pub mod Change
+pub mod Buffer
+pub mod Restore
+pub mod History
+pub mod EditRules
+pub mod Cases

@@ -1,0 +1,338 @@
+// Edits of a file that stands at the front of a lent buffer, and their undo. Each call judges everything first and writes
+// afterwards, so that a refusal has altered nothing.
+mod change;
+pub mod refusals;
+mod write;
+
+use change::Change;
+use change::TRAILER_SIZE;
+use directory::Counts;
+use directory::Found;
+use directory::Opened;
+use directory::Refusal;
+use directory::format::EXTENDED_FIRST;
+use directory::format::EXTENDED_LAST;
+use directory::format::FREE;
+use directory::format::LONE;
+use directory::format::MOST_BLOCKS;
+use directory::format::MOST_BYTES;
+use directory::format::MOST_SLOTS;
+use directory::places::Room;
+use directory::refusals::ABSENT;
+use directory::refusals::BAD_TAG;
+use directory::refusals::DIR_BIG;
+use directory::refusals::TOO_LONG;
+use refusals::BAD_TRAILER;
+use refusals::NO_EDIT;
+use refusals::NO_ROOM;
+use refusals::PRESENT;
+use write::BLOCK_SIZE;
+use write::BLOCK_SLOTS;
+ghost use mathlib.Core.Path.{_≡_};
+ghost use mathlib.Core.List.{[], _∷_};
+ghost use mathlib.Core.Bool.{not, _&&_};
+ghost use Prim.Native.Nat.{_+_, _≤_};
+ghost use lib.Dec.{eqb};
+ghost use lib.ListN.{length, take};
+ghost use Rattle.directory.specs.Limits.{most-bytes};
+ghost use Rattle.directory.specs.Answer.{grant};
+ghost use Rattle.directory.specs.Search.{first};
+ghost use Rattle.directory.specs.Slots.{liveAt, slotsOf};
+ghost use Rattle.directory.specs.Opening.{openOf};
+ghost use Rattle.journal.specs.Trailer.{previousOf};
+ghost use Rattle.journal.specs.Edit.{badTag, dataSlot, slotEdit, newBlock, block-size, blockEdit, fitted, addAt};
+ghost use Rattle.journal.specs.Undo.{opens, undoOf};
+ghost use Rattle.journal.specs.Buffer.{addIn, replaceInBuffer, removeIn, undoIn, Does, Undoes};
+ghost use Rattle.journal.specs.Change.{Targets};
+ghost use Rattle.journal.specs.Restore.{Restorable};
+
+// The length of the file that a granted call leaves.
+pub enum Edited {
+    Granted(usize),
+    Refused(Refusal),
+}
+
+// Whether no edit takes a tag.
+fn bad_tag(tag: usize) -> bool
+    ensures { λ r. ⌜ r ≡ badTag tag ⌝ }
+{
+    if tag == 0 {
+        return true;
+    }
+    if tag == FREE {
+        return true;
+    }
+    if tag == LONE {
+        return true;
+    }
+    if tag < EXTENDED_FIRST {
+        return false;
+    }
+    tag <= EXTENDED_LAST
+}
+
+// Points the slot at p at data appended to the image, unless the new file is too long or has no room.
+fn put_slot(
+    buffer: &mut [u8],
+    n: usize,
+    p: usize,
+    tag: u16,
+    reference: u16,
+    content: &[u8],
+) -> Edited
+    requires { ⌜ (n ≤ most-bytes) × (n ≤ length (now buffer)) × (p + 12 ≤ n) ⌝ }
+    ensures { λ r. ⌜ Does (now (buffer .entry)) (now (buffer .exit)) (fitted (length (now (buffer .entry))) (slotEdit (take n (now (buffer .entry))) p (dataSlot tag reference (now (content .entry)) n) (now (content .entry)))) r ⌝ }
+{
+    let end = n + content.len();
+    if MOST_BYTES < end + 32 {
+        return Edited::Refused(Refusal {
+            number: TOO_LONG,
+            place: 0,
+        });
+    }
+    if buffer.len() < end + 32 {
+        return Edited::Refused(Refusal {
+            number: NO_ROOM,
+            place: 0,
+        });
+    }
+    let change = change::change_at(&buffer[..n], p, 12);
+    wire::write_bytes(buffer, n, content);
+    change::write_trailer(buffer, end, change);
+    write::write_slot(
+        buffer,
+        p,
+        tag as usize,
+        reference as usize,
+        write::offset_of(content, n),
+        content.len(),
+    );
+    Edited::Granted(end + 32)
+}
+
+// Appends a block, whose first slot is pointed at data after it, and links it from the block at b.
+fn put_block(
+    buffer: &mut [u8],
+    n: usize,
+    b: usize,
+    tag: u16,
+    reference: u16,
+    content: &[u8],
+) -> Edited
+    requires { ⌜ (n ≤ most-bytes) × (n ≤ length (now buffer)) × (b + 6 ≤ n) ⌝ }
+    ensures { λ r. ⌜ Does (now (buffer .entry)) (now (buffer .exit)) (fitted (length (now (buffer .entry))) (blockEdit (take n (now (buffer .entry))) b (newBlock (dataSlot tag reference (now (content .entry)) (n + block-size))) (now (content .entry)))) r ⌝ }
+{
+    let start = n + BLOCK_SIZE;
+    let end = start + content.len();
+    if MOST_BYTES < end + 32 {
+        return Edited::Refused(Refusal {
+            number: TOO_LONG,
+            place: 0,
+        });
+    }
+    if buffer.len() < end + 32 {
+        return Edited::Refused(Refusal {
+            number: NO_ROOM,
+            place: 0,
+        });
+    }
+    let change = change::change_at(&buffer[..n], b + 2, 4);
+    write::write_block(
+        buffer,
+        n,
+        tag as usize,
+        reference as usize,
+        write::offset_of(content, start),
+        content.len(),
+    );
+    wire::write_bytes(buffer, start, content);
+    change::write_trailer(buffer, end, change);
+    wire::write32(buffer, b + 2, n);
+    Edited::Granted(end + 32)
+}
+
+// What an edit of a tag and a reference meets in an image: a refusal, the slot, or no such slot.
+enum Target {
+    Refused(Refusal),
+    Present(usize),
+    Absent(Counts),
+}
+
+fn meet(image: &[u8], tag: u16, reference: u16) -> Target
+    ensures { λ r. ⌜ Targets (now (image .entry)) tag reference r ⌝ }
+{
+    let opened = directory::open(image);
+    let Opened::Accepted(counts) = opened else {
+        return Target::Refused(directory::refusal_of(opened));
+    };
+    if bad_tag(tag as usize) {
+        return Target::Refused(Refusal {
+            number: BAD_TAG,
+            place: 0,
+        });
+    }
+    let found = directory::find_slot(image, counts.blocks, tag, reference);
+    match found {
+        Found::At(p) => Target::Present(p),
+        Found::Missing(_) => Target::Absent(counts),
+    }
+}
+
+// Adds an element that is absent, in the first free slot or in a new block.
+fn put_new(
+    buffer: &mut [u8],
+    n: usize,
+    counts: Counts,
+    tag: u16,
+    reference: u16,
+    content: &[u8],
+) -> Edited
+    requires { ⌜ (n ≤ length (now buffer)) × (openOf (take n (now buffer)) ≡ grant (counts .blocks ∷ counts .slots ∷ counts .live ∷ [])) ⌝ }
+    ensures { λ r. ⌜ Does (now (buffer .entry)) (now (buffer .exit)) (addAt (take n (now (buffer .entry))) (length (now (buffer .entry))) tag reference (now (content .entry)) (first (λ p. not (liveAt (take n (now (buffer .entry))) p)) (slotsOf (take n (now (buffer .entry)))))) r ⌝ }
+{
+    let room = directory::places::find_room(&buffer[..n], counts.blocks);
+    match room {
+        Room::Slot(p) => put_slot(buffer, n, p, tag, reference, content),
+        Room::Block(b) => {
+            if MOST_BLOCKS <= counts.blocks {
+                return Edited::Refused(Refusal {
+                    number: DIR_BIG,
+                    place: 0,
+                });
+            }
+            if MOST_SLOTS < counts.slots + BLOCK_SLOTS {
+                return Edited::Refused(Refusal {
+                    number: DIR_BIG,
+                    place: 0,
+                });
+            }
+            put_block(buffer, n, b, tag, reference, content)
+        }
+    }
+}
+
+// Adds an element.
+pub fn add(buffer: &mut [u8], n: usize, tag: u16, reference: u16, content: &[u8]) -> Edited
+    ensures { λ r. ⌜ Does (now (buffer .entry)) (now (buffer .exit)) (addIn (now (buffer .entry)) n tag reference (now (content .entry))) r ⌝ }
+{
+    if buffer.len() < n {
+        return Edited::Refused(Refusal {
+            number: TOO_LONG,
+            place: 0,
+        });
+    }
+    let met = meet(&buffer[..n], tag, reference);
+    match met {
+        Target::Refused(r) => Edited::Refused(r),
+        Target::Present(_) => Edited::Refused(Refusal {
+            number: PRESENT,
+            place: 0,
+        }),
+        Target::Absent(counts) => put_new(buffer, n, counts, tag, reference, content),
+    }
+}
+
+// Points an element at new data, under its base tag.
+pub fn replace(buffer: &mut [u8], n: usize, tag: u16, reference: u16, content: &[u8]) -> Edited
+    ensures { λ r. ⌜ Does (now (buffer .entry)) (now (buffer .exit)) (replaceInBuffer (now (buffer .entry)) n tag reference (now (content .entry))) r ⌝ }
+{
+    if buffer.len() < n {
+        return Edited::Refused(Refusal {
+            number: TOO_LONG,
+            place: 0,
+        });
+    }
+    let met = meet(&buffer[..n], tag, reference);
+    match met {
+        Target::Refused(r) => Edited::Refused(r),
+        Target::Present(p) => put_slot(buffer, n, p, tag, reference, content),
+        Target::Absent(_) => Edited::Refused(Refusal {
+            number: ABSENT,
+            place: 0,
+        }),
+    }
+}
+
+// Frees an element's slot.
+pub fn remove(buffer: &mut [u8], n: usize, tag: u16, reference: u16) -> Edited
+    ensures { λ r. ⌜ Does (now (buffer .entry)) (now (buffer .exit)) (removeIn (now (buffer .entry)) n tag reference) r ⌝ }
+{
+    if buffer.len() < n {
+        return Edited::Refused(Refusal {
+            number: TOO_LONG,
+            place: 0,
+        });
+    }
+    let met = meet(&buffer[..n], tag, reference);
+    match met {
+        Target::Refused(r) => Edited::Refused(r),
+        Target::Present(p) => put_slot(buffer, n, p, 1, 0, b""),
+        Target::Absent(_) => Edited::Refused(Refusal {
+            number: ABSENT,
+            place: 0,
+        }),
+    }
+}
+
+// Whether a restored image opens, and its trailer, or none, is the previous one.
+fn is_sound(image: &[u8], previous: usize) -> bool
+    ensures { λ r. ⌜ r ≡ eqb previous (previousOf (now (image .entry))) && opens (now (image .entry)) ⌝ }
+{
+    if previous != change::previous_of(image) {
+        return false;
+    }
+    let opened = directory::open(image);
+    match opened {
+        Opened::Accepted(_) => true,
+        Opened::Refused(_) => false,
+    }
+}
+
+// Puts the old bytes back, and the present ones again where the restored image is not sound.
+fn restore(buffer: &mut [u8], n: usize, present: Change, change: Change) -> Edited
+    requires { ⌜ Restorable (now buffer) n present change ⌝ }
+    ensures { λ r. ⌜ Undoes (now (buffer .entry)) (now (buffer .exit)) n (undoOf (take n (now (buffer .entry)))) r ⌝ }
+{
+    let before = change.before;
+    change::write_back(buffer, change);
+    if is_sound(&buffer[..before], change.previous) {
+        return Edited::Granted(before);
+    }
+    change::write_back(buffer, present);
+    Edited::Refused(Refusal {
+        number: BAD_TRAILER,
+        place: n - TRAILER_SIZE,
+    })
+}
+
+// Takes back the newest edit that the file carries.
+pub fn undo(buffer: &mut [u8], n: usize) -> Edited
+    ensures { λ r. ⌜ Undoes (now (buffer .entry)) (now (buffer .exit)) n (undoIn (now (buffer .entry)) n) r ⌝ }
+{
+    if buffer.len() < n {
+        return Edited::Refused(Refusal {
+            number: TOO_LONG,
+            place: 0,
+        });
+    }
+    let opened = directory::open(&buffer[..n]);
+    let Opened::Accepted(counts) = opened else {
+        return Edited::Refused(directory::refusal_of(opened));
+    };
+    if !change::carries_trailer(&buffer[..n]) {
+        return Edited::Refused(Refusal {
+            number: NO_EDIT,
+            place: 0,
+        });
+    }
+    let t = n - TRAILER_SIZE;
+    let change = change::read_trailer(&buffer[..n], t);
+    if !change::is_known(&buffer[..n], counts.blocks, t, change) {
+        return Edited::Refused(Refusal {
+            number: BAD_TRAILER,
+            place: t,
+        });
+    }
+    let present = change::change_at(&buffer[..n], change.place, change.altered);
+    restore(buffer, n, present, change)
+}

@@ -1,0 +1,170 @@
+//! Edits and undo: each call by library, editor and history, and the whole buffer compared after it.
+
+use super::Difference;
+use crate::editor::{self, Kind, Refused, Request};
+use crate::ffi::{self, Answer, Edited};
+use crate::history::History;
+use crate::lent::surround;
+use crate::tally::{Call, Tally};
+use std::fmt;
+use std::hint::black_box;
+use std::ops::Range;
+
+/// A buffer lent to the library, the length of the file at its front, and the history beside it.
+pub struct Lending {
+    memory: Vec<u8>,
+    buffer: Range<usize>,
+    length: u64,
+    history: History,
+}
+
+impl Lending {
+    /// A buffer with a file at its front and any other bytes behind it.
+    pub fn new(file: &[u8], rest: &[u8], shift: usize) -> Lending {
+        let (memory, buffer) = surround(&[file, rest].concat(), shift);
+        let history = History::new(file, buffer.len());
+        Lending { memory, buffer, length: file.len() as u64, history }
+    }
+
+    pub fn capacity(&self) -> usize {
+        self.buffer.len()
+    }
+
+    /// The file in the buffer.
+    pub fn file(&self) -> &[u8] {
+        &self.buffer()[..self.length as usize]
+    }
+
+    pub fn history(&self) -> &History {
+        &self.history
+    }
+
+    fn buffer(&self) -> &[u8] {
+        &self.memory[self.buffer.clone()]
+    }
+
+    /// One call on the file in the buffer.
+    pub fn call(&mut self, request: &Request, tally: &mut Tally) -> Result<Edited, Difference> {
+        let library = self.call_with(self.length, request, tally)?;
+        if library.number == 0 {
+            self.length = library.length;
+            tally.undone_starts += u64::from(matches!(request, Request::Undo) && self.history.edits() == 0);
+        }
+        let history = self.history.call(request);
+        same_answer(request, library, "history", expected(history))?;
+        match first_difference(self.file(), self.history.top()) {
+            Some(difference) => Err(differ(request, difference, "history", "that of its top file".into())),
+            None => Ok(library),
+        }
+    }
+
+    /// One call by library and editor, with any n. The history does not see it.
+    pub fn call_with(&mut self, n: u64, request: &Request, tally: &mut Tally) -> Result<Edited, Difference> {
+        let made = editor::call(self.buffer(), n, request);
+        let mut memory = self.memory.clone();
+        if let Ok(file) = &made {
+            memory[self.buffer.start..][..file.len()].copy_from_slice(file);
+        }
+        let library = lend(&mut self.memory[self.buffer.clone()], n, request)?;
+        let length = made.as_ref().map(|file| file.len() as u64).map_err(|refused| *refused);
+        same_answer(request, library, "editor", expected(length))?;
+        if let Some(difference) = first_difference(self.buffer(), &memory[self.buffer.clone()]) {
+            return Err(differ(request, difference, "editor", "that of its buffer".into()));
+        }
+        if self.memory != memory {
+            return Err(differ(request, "altered bytes around the buffer".into(), "editor", "left them".into()));
+        }
+        tally.count(request.call(), library.number);
+        if let Err(refused) = made {
+            tally.count_reason(request.call(), refused.reason);
+        }
+        Ok(library)
+    }
+}
+
+/// Calls the library; it must leave the data as they were.
+fn lend(buffer: &mut [u8], n: u64, request: &Request) -> Result<Edited, Difference> {
+    let kept = request.data().to_vec();
+    let answer = call_library(buffer, n, request);
+    if black_box(request.data()) != kept {
+        return Err(differ(request, "altered the data".into(), "editor", "left them as they were".into()));
+    }
+    Ok(answer)
+}
+
+pub fn call_library(buffer: &mut [u8], n: u64, request: &Request) -> Edited {
+    let Request::Edit(edit) = request else { return ffi::undo(buffer, n) };
+    match edit.kind {
+        Kind::Add => ffi::add(buffer, n, edit.tag, edit.reference, &edit.data),
+        Kind::Replace => ffi::replace(buffer, n, edit.tag, edit.reference, &edit.data),
+        Kind::Remove => ffi::remove(buffer, n, edit.tag, edit.reference),
+    }
+}
+
+/// What the library must answer: the new length, or the refusal.
+pub fn expected(outcome: Result<u64, Refused>) -> Edited {
+    match outcome {
+        Ok(length) => Edited { number: 0, place: 0, length },
+        Err(Refused { refusal, .. }) => Edited::refused(refusal.number, refusal.place),
+    }
+}
+
+pub fn same_answer(
+    request: &Request,
+    library: Edited,
+    judge: &'static str,
+    expected: Edited,
+) -> Result<(), Difference> {
+    if library != expected {
+        return Err(differ(request, format!("{library:?}"), judge, format!("{expected:?}")));
+    }
+    Ok(())
+}
+
+pub fn differ(request: &Request, library: String, judge: &'static str, expected: String) -> Difference {
+    Difference { call: request.call(), arguments: request.to_string(), library, judge, expected }
+}
+
+/// Where the library's bytes first differ from others, in words.
+pub fn first_difference(library: &[u8], other: &[u8]) -> Option<String> {
+    if library == other {
+        return None;
+    }
+    let place = library.iter().zip(other).position(|(one, other)| one != other);
+    Some(match place {
+        Some(place) => format!("byte {place} is {:02x}, not {:02x}", library[place], other[place]),
+        None => format!("{} bytes, not {}", library.len(), other.len()),
+    })
+}
+
+impl Request {
+    pub fn call(&self) -> Call {
+        match self {
+            Request::Undo => Call::Undo,
+            Request::Edit(edit) => match edit.kind {
+                Kind::Add => Call::Add,
+                Kind::Replace => Call::Replace,
+                Kind::Remove => Call::Remove,
+            },
+        }
+    }
+
+    fn data(&self) -> &[u8] {
+        match self {
+            Request::Undo => &[],
+            Request::Edit(edit) => &edit.data,
+        }
+    }
+}
+
+/// The arguments of the call.
+impl fmt::Display for Request {
+    fn fmt(&self, out: &mut fmt::Formatter) -> fmt::Result {
+        let Request::Edit(edit) = self else { return write!(out, "[]") };
+        write!(out, "[{}/{}", edit.tag, edit.reference)?;
+        match edit.kind {
+            Kind::Remove => write!(out, "]"),
+            _ => write!(out, ", {} bytes]", edit.data.len()),
+        }
+    }
+}
