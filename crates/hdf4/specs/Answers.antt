@@ -5,6 +5,9 @@ use mathlib.Core.List.{List, [], _∷_}
 use Rattle.directory.specs.Answer.{Answer}
 use Rattle.journal.specs.Outcome.{Outcome, outcomeAnswer}
 use Rattle.journal.specs.Buffer.{laidOver, putBack}
+use Rattle.hdf4.specs.declared.ViewAnswer.{ViewAnswer}
+use Rattle.hdf4.specs.declared.CopyAnswer.{CopyAnswer}
+use Rattle.hdf4.specs.declared.ChooseAnswer.{ChooseAnswer}
 use Rattle.hdf4.specs.declared.EditAnswer.{EditAnswer}
 use Rattle.hdf4.specs.declared.OpenAnswer.{OpenAnswer}
 use Rattle.hdf4.specs.declared.FindAnswer.{FindAnswer}
@@ -18,6 +21,15 @@ findAnswer r = record { number = r .number; place = r .place; values = r .slot �
 
 abbrev pub listAnswer : ListAnswer → Answer
 listAnswer r = record { number = r .number; place = r .place; values = r .elements ∷ [] }
+
+abbrev pub viewAnswer : ViewAnswer → Answer
+viewAnswer r = record { number = r .number; place = r .place; values = r .offset ∷ r .length ∷ [] }
+
+abbrev pub copyAnswer : CopyAnswer → Answer
+copyAnswer r = record { number = r .number; place = r .place; values = r .length ∷ [] }
+
+abbrev pub chooseAnswer : ChooseAnswer → Answer
+chooseAnswer r = record { number = r .number; place = r .place; values = r .which ∷ r .offset ∷ r .length ∷ [] }
 
 abbrev pub editAnswer : EditAnswer → Answer
 editAnswer r = record { number = r .number; place = r .place; values = r .length ∷ [] }

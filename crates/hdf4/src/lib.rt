@@ -4,14 +4,20 @@ use directory::Found;
 use directory::Opened;
 use directory::listing::Listed;
 use journal::Edited;
+use storage::Copied;
+use storage::choose::Chosen;
+use storage::view::Viewed;
 ghost use mathlib.Core.Path.{_≡_};
 ghost use lib.ListN.{length};
 ghost use Rattle.directory.specs.Opening.{openOf};
 ghost use Rattle.directory.specs.Lookup.{findOf};
 ghost use Rattle.directory.specs.Listing.{listOf, tableAfter};
+ghost use Rattle.storage.specs.View.{viewOf};
+ghost use Rattle.storage.specs.Copy.{copyOf, copyAfter};
+ghost use Rattle.storage.specs.Choose.{chooseOf};
 ghost use Rattle.journal.specs.Outcome.{editedNumbers};
 ghost use Rattle.journal.specs.Buffer.{addIn, replaceInBuffer, removeIn, undoIn};
-ghost use Rattle.hdf4.specs.Answers.{openAnswer, findAnswer, listAnswer, editAnswer, Edits, Undoes};
+ghost use Rattle.hdf4.specs.Answers.{openAnswer, findAnswer, listAnswer, viewAnswer, copyAnswer, chooseAnswer, editAnswer, Edits, Undoes};
 
 #[repr(C)]
 pub struct OpenAnswer {
@@ -34,6 +40,30 @@ pub struct ListAnswer {
     pub number: u64,
     pub place: u64,
     pub elements: u64,
+}
+
+#[repr(C)]
+pub struct ViewAnswer {
+    pub number: u64,
+    pub place: u64,
+    pub offset: u64,
+    pub length: u64,
+}
+
+#[repr(C)]
+pub struct CopyAnswer {
+    pub number: u64,
+    pub place: u64,
+    pub length: u64,
+}
+
+#[repr(C)]
+pub struct ChooseAnswer {
+    pub number: u64,
+    pub place: u64,
+    pub which: u64,
+    pub offset: u64,
+    pub length: u64,
 }
 
 #[repr(C)]
@@ -101,6 +131,82 @@ pub extern "C" fn hdf4_list(image: &[u8], table: &mut [u32]) -> ListAnswer
             number: r.number as u64,
             place: r.place as u64,
             elements: 0,
+        },
+    }
+}
+
+#[no_mangle]
+pub extern "C" fn hdf4_view(image: &[u8], tag: u16, reference: u16) -> ViewAnswer
+    ensures { λ r. ⌜ viewAnswer r ≡ viewOf (now (image .entry)) tag reference ⌝ }
+{
+    let viewed = storage::view::numbers(image, tag, reference);
+    match viewed {
+        Viewed::Part { offset, length } => ViewAnswer {
+            number: 0,
+            place: 0,
+            offset: offset as u64,
+            length: length as u64,
+        },
+        Viewed::Refused(r) => ViewAnswer {
+            number: r.number as u64,
+            place: r.place as u64,
+            offset: 0,
+            length: 0,
+        },
+    }
+}
+
+#[no_mangle]
+pub extern "C" fn hdf4_copy(image: &[u8], tag: u16, reference: u16, out: &mut [u8]) -> CopyAnswer
+    ensures answer { λ r. ⌜ copyAnswer r ≡ copyOf (now (image .entry)) tag reference (length (now (out .entry))) ⌝ }
+    ensures lent { λ _. ⌜ now (out .exit) ≡ copyAfter (now (image .entry)) tag reference (now (out .entry)) ⌝ }
+{
+    let copied = storage::copy(image, tag, reference, out);
+    match copied {
+        Copied::Bytes(n) => CopyAnswer {
+            number: 0,
+            place: 0,
+            length: n as u64,
+        },
+        Copied::Refused(r) => CopyAnswer {
+            number: r.number as u64,
+            place: r.place as u64,
+            length: 0,
+        },
+    }
+}
+
+#[no_mangle]
+pub extern "C" fn hdf4_choose(
+    current: &[u8],
+    fallback: &[u8],
+    tag: u16,
+    reference: u16,
+) -> ChooseAnswer
+    ensures { λ r. ⌜ chooseAnswer r ≡ chooseOf (now (current .entry)) (now (fallback .entry)) tag reference ⌝ }
+{
+    let chosen = storage::choose::numbers(current, fallback, tag, reference);
+    match chosen {
+        Chosen::Current { offset, length } => ChooseAnswer {
+            number: 0,
+            place: 0,
+            which: 1,
+            offset: offset as u64,
+            length: length as u64,
+        },
+        Chosen::Fallback { offset, length } => ChooseAnswer {
+            number: 0,
+            place: 0,
+            which: 2,
+            offset: offset as u64,
+            length: length as u64,
+        },
+        Chosen::Refused(r) => ChooseAnswer {
+            number: r.number as u64,
+            place: r.place as u64,
+            which: 0,
+            offset: 0,
+            length: 0,
         },
     }
 }

@@ -1,14 +1,14 @@
 -- What follows from the history claim: undo after any calls, and what a refusal leaves. Assumes nothing.
 use Prim.Native.Nat.{ℕ, _≤_}
-use mathlib.Core.Path.{_≡_, refl, sym, _∙_}
+use mathlib.Core.Path.{_≡_, refl, sym, ap, _∙_}
 use mathlib.Core.List.{List, [], _∷_}
 use lib.ListN.{length, take}
 use Rattle.wire.specs.Numbers.{Bytes}
 use Rattle.directory.specs.Opening.{openOf}
-use Rattle.journal.specs.Outcome.{granted, refused}
+use Rattle.journal.specs.Outcome.{granted, refused, outcomeAnswer}
 use Rattle.journal.specs.Undo.{undoOf}
 use Rattle.journal.specs.Buffer.{laidOver, putBack}
-use Rattle.journal.specs.History.{Call, edit, undo, AllTyped, History, started, below, judged, popped, historyAfter, historyAfterAll, State, outcome, sizeAfter, stateAfter, stateAfterAll, Agrees}
+use Rattle.journal.specs.History.{Call, edit, undo, Typed, AllTyped, History, started, below, judged, popped, historyAfter, historyAfterAll, State, outcome, sizeAfter, stateAfter, stateAfterAll, Agrees}
 use Rattle.journal.proofs.Outcomes.{refused-granted}
 use Rattle.journal.proofs.History.{step-keeps, reached}
 
@@ -30,6 +30,17 @@ undo-alone capacity h e = (rw e, λ file q. rw (e, q))
 
 module _ (buffer : List ℕ) (n : ℕ) (bytes : Bytes buffer) (inside : n ≤ length buffer) (opens : openOf (take n buffer) .number ≡ 0)
     (calls : List Call) (typed : AllTyped calls) where
+  -- whatever is called next, its answer is the history's, and then the length and the bytes are again the top file's
+  pub every-call : let m = stateAfterAll calls (record { buffer = buffer; size = n }) in
+      let h = historyAfterAll (length buffer) calls (started (take n buffer)) in
+      (c : Call) → Typed c → (outcomeAnswer (outcome c m) ≡ outcomeAnswer (judged (length buffer) c h))
+      × Agrees (stateAfter c m) (historyAfter (length buffer) c h)
+  every-call c y =
+      let m = stateAfterAll calls (record { buffer = buffer; size = n }) in
+      let h = historyAfterAll (length buffer) calls (started (take n buffer)) in
+      let k = step-keeps (length buffer) m h (reached buffer n bytes inside opens calls typed) c y in
+      (ap outcomeAnswer (k .0), k .1 .agrees)
+
   -- with an edit not yet cancelled, undo is granted, and the file below the top is then the buffer's
   pub undo-cancels : let m = stateAfterAll calls (record { buffer = buffer; size = n }) in
       let h = historyAfterAll (length buffer) calls (started (take n buffer)) in

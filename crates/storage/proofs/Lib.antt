@@ -1,0 +1,12 @@
+pub mod Elements
+pub mod Found
+pub mod Views
+pub mod Choices
+pub mod Records
+pub mod Tables
+pub mod Walks
+pub mod Loops
+pub mod Copies
+pub mod Given
+pub mod Claims
+pub mod Cases

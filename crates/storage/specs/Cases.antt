@@ -1,0 +1,56 @@
+-- Worked cases of linked blocks as one table: what the definitions compute beside what document 01's rules give. Assumes nothing.
+use Prim.Native.Nat.{ℕ}
+use mathlib.Core.List.{List, [], _∷_}
+use Rattle.wire.specs.Numbers.{bytes, put}
+use Rattle.storage.specs.Copy.{storedAt}
+
+-- file L: the element 100/1 is extended, "abcdef" in three blocks, of which the first table names two and the second one
+unfoldable pub L : List ℕ
+L =
+    -- the four bytes, and one block of six slots: the record (at 10), the tables (at 22 and 34), the blocks (at 46, 58 and 70)
+    0x0e ∷ 0x03 ∷ 0x13 ∷ 0x01 ∷ 0 ∷ 6 ∷ 0 ∷ 0 ∷ 0 ∷ 0
+    ∷ 64 ∷ 100 ∷ 0 ∷ 1 ∷ 0 ∷ 0 ∷ 0 ∷ 82 ∷ 0 ∷ 0 ∷ 0 ∷ 22
+    ∷ 0 ∷ 20 ∷ 0 ∷ 2 ∷ 0 ∷ 0 ∷ 0 ∷ 104 ∷ 0 ∷ 0 ∷ 0 ∷ 6
+    ∷ 0 ∷ 20 ∷ 0 ∷ 3 ∷ 0 ∷ 0 ∷ 0 ∷ 110 ∷ 0 ∷ 0 ∷ 0 ∷ 6
+    ∷ 0 ∷ 20 ∷ 0 ∷ 4 ∷ 0 ∷ 0 ∷ 0 ∷ 116 ∷ 0 ∷ 0 ∷ 0 ∷ 3
+    ∷ 0 ∷ 20 ∷ 0 ∷ 5 ∷ 0 ∷ 0 ∷ 0 ∷ 119 ∷ 0 ∷ 0 ∷ 0 ∷ 2
+    ∷ 0 ∷ 20 ∷ 0 ∷ 6 ∷ 0 ∷ 0 ∷ 0 ∷ 121 ∷ 0 ∷ 0 ∷ 0 ∷ 1
+    -- the record (at 82): kind 1, length 6, first_len 3, blk_len 2, num_blk 2, link_ref 2
+    ∷ 0 ∷ 0 ∷ 0 ∷ 1 ∷ 0 ∷ 0 ∷ 0 ∷ 6 ∷ 0 ∷ 0 ∷ 0 ∷ 3 ∷ 0 ∷ 0 ∷ 0 ∷ 2 ∷ 0 ∷ 0 ∷ 0 ∷ 2 ∷ 0 ∷ 2
+    -- the tables (at 104 and 110): the next one, then two blocks
+    ∷ 0 ∷ 3 ∷ 0 ∷ 4 ∷ 0 ∷ 5
+    ∷ 0 ∷ 0 ∷ 0 ∷ 6 ∷ 0 ∷ 0
+    -- the blocks (at 116, 119 and 121): "abc", "de", "f"
+    ∷ 97 ∷ 98 ∷ 99
+    ∷ 100 ∷ 101
+    ∷ 102 ∷ []
+
+-- ---- Rows
+
+pub record Row : Type 0 where
+  pub computed : List ℕ
+  pub expected : List ℕ
+
+-- the element of the slot at 10: the first rule that its record breaks, its length, the first fault of its chain, and the bytes before that
+abbrev pub reading : List ℕ → List ℕ → Row
+reading s expected =
+    record { computed = storedAt s 10 .record-fault ∷ storedAt s 10 .size ∷ storedAt s 10 .chain-fault ∷ storedAt s 10 .bytes; expected = expected }
+
+-- ---- Cases
+
+unfoldable pub table : List Row
+table =
+    -- the six bytes
+    reading L (0 ∷ 6 ∷ 0 ∷ 97 ∷ 98 ∷ 99 ∷ 100 ∷ 101 ∷ 102 ∷ [])
+    -- length 4 and no second table: the second block gives one byte, and no more is judged
+    ∷ reading (put (put L 86 (bytes 4 4)) 104 (bytes 2 0)) (0 ∷ 4 ∷ 0 ∷ 97 ∷ 98 ∷ 99 ∷ 100 ∷ [])
+    -- length 0 and no table at all
+    ∷ reading (put (put L 86 (bytes 4 0)) 102 (bytes 2 0)) (0 ∷ 0 ∷ 0 ∷ [])
+    -- no second table, the first one again, one that is an entry short
+    ∷ reading (put L 104 (bytes 2 0)) (0 ∷ 6 ∷ 13 ∷ 97 ∷ 98 ∷ 99 ∷ 100 ∷ 101 ∷ [])
+    ∷ reading (put L 104 (bytes 2 2)) (0 ∷ 6 ∷ 13 ∷ 97 ∷ 98 ∷ 99 ∷ 100 ∷ 101 ∷ [])
+    ∷ reading (put L 42 (bytes 4 4)) (0 ∷ 6 ∷ 13 ∷ 97 ∷ 98 ∷ 99 ∷ 100 ∷ 101 ∷ [])
+    -- a first block that is a byte short, a last block that is extended
+    ∷ reading (put L 54 (bytes 4 2)) (0 ∷ 6 ∷ 13 ∷ [])
+    ∷ reading (put L 70 (bytes 2 16404)) (0 ∷ 6 ∷ 13 ∷ 97 ∷ 98 ∷ 99 ∷ 100 ∷ 101 ∷ [])
+    ∷ []

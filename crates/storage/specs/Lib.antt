@@ -1,0 +1,9 @@
+pub mod Limits
+pub mod Elements
+pub mod View
+pub mod Linked
+pub mod Given
+pub mod Copy
+pub mod Choose
+pub mod Steps
+pub mod Cases

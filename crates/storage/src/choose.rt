@@ -1,0 +1,66 @@
+// An element's part of one of two images: the current one where it has the element, else the fallback.
+use super::view::Located;
+use directory::Opened;
+use directory::Refusal;
+use directory::refusals::ABSENT;
+ghost use mathlib.Core.Path.{_≡_};
+ghost use Rattle.storage.specs.Choose.{chosenNumbers, chooseOf, chosenBytes};
+
+// Where the part stands in the current image or in the fallback.
+pub enum Chosen {
+    Current { offset: usize, length: usize },
+    Fallback { offset: usize, length: usize },
+    Refused(Refusal),
+}
+
+// Which image the part comes from, and where it stands there.
+pub fn numbers(current: &[u8], fallback: &[u8], tag: u16, reference: u16) -> Chosen
+    ensures { λ r. ⌜ chosenNumbers r ≡ chooseOf (now (current .entry)) (now (fallback .entry)) tag reference ⌝ }
+{
+    let opened = directory::open(current);
+    let Opened::Accepted(counts) = opened else {
+        return Chosen::Refused(directory::refusal_of(opened));
+    };
+    let opened_fallback = directory::open(fallback);
+    let Opened::Accepted(fallback_counts) = opened_fallback else {
+        return Chosen::Refused(directory::refusal_of(opened_fallback));
+    };
+    match super::view::locate(current, counts.blocks, tag, reference) {
+        Located::Plain {
+            slot: _,
+            offset,
+            length,
+        } => {
+            return Chosen::Current { offset, length };
+        }
+        Located::Refused(refusal) => {
+            if refusal.number != ABSENT {
+                return Chosen::Refused(refusal);
+            }
+        }
+    }
+    match super::view::locate(fallback, fallback_counts.blocks, tag, reference) {
+        Located::Plain {
+            slot: _,
+            offset,
+            length,
+        } => Chosen::Fallback { offset, length },
+        Located::Refused(refusal) => Chosen::Refused(refusal),
+    }
+}
+
+// The part, empty where the call is refused.
+pub fn part<'a>(current: &'a [u8], fallback: &'a [u8], tag: u16, reference: u16) -> &'a [u8]
+    ensures { λ r. ⌜ now r ≡ chosenBytes (now (current .entry)) (now (fallback .entry)) (chooseOf (now (current .entry)) (now (fallback .entry)) tag reference) ⌝ }
+{
+    match numbers(current, fallback, tag, reference) {
+        Chosen::Current { offset, length } => {
+            return &current[offset..offset + length];
+        }
+        Chosen::Fallback { offset, length } => {
+            return &fallback[offset..offset + length];
+        }
+        Chosen::Refused(_) => {}
+    }
+    &current[..0]
+}

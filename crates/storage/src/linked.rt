@@ -1,0 +1,242 @@
+// An element in linked blocks: its record, the tables that it leads to, and the blocks that they name. Tables and blocks are looked up
+// in the image's data descriptor blocks, of which there are so many as the parameter `blocks` says.
+use super::Copied;
+use super::format::KIND_BYTES;
+use super::format::LINKED_KIND;
+use super::format::LINKED_TAG;
+use super::format::MOST_TABLES;
+use super::format::RECORD_BYTES;
+use super::refusals::CHAIN;
+use super::refusals::STORAGE;
+use super::view::Located;
+use directory::Refusal;
+use directory::refusals::SMALL;
+ghost use mathlib.Core.Path.{_≡_};
+ghost use Prim.Native.Nat.{_+_, _*_, _-_, _<_, _≤_, min};
+ghost use lib.Dec.{eqb};
+ghost use lib.ListN.{length, take};
+ghost use Rattle.wire.specs.Numbers.{put};
+ghost use Rattle.directory.specs.Search.{any};
+ghost use Rattle.directory.specs.Slots.{slotsOf, contentAt};
+ghost use Rattle.directory.specs.Rules.{In, Live};
+ghost use Rattle.storage.specs.Linked.{recordFault, linkedAt, share, blocksFrom, chainOf};
+ghost use Rattle.storage.specs.Copy.{inBlocks, copyAt, Copies};
+ghost use Rattle.storage.specs.Steps.{Opens, Small, Describes, standsAt, Reached, Took, Followed};
+
+// The fields of a record: how many bytes the element has, its first block (first_len) and each later one (blk_len), how many blocks a
+// table has (num_blk), and the reference of the first table (link_ref).
+pub struct Description {
+    pub length: usize,
+    pub first: usize,
+    pub block: usize,
+    pub entries: usize,
+    pub table: u16,
+}
+
+// Where the bytes of a table or a block stand.
+pub enum Linked {
+    Part { offset: usize, length: usize },
+    Nothing,
+}
+
+// What a table came to: how many bytes are left to copy, and the number of the first fault, 0 where there is none.
+pub struct Taken {
+    pub left: usize,
+    pub fault: usize,
+}
+
+fn read_description(bytes: &[u8]) -> Description
+    ensures { λ r. ⌜ Describes (now (bytes .entry)) r ⌝ }
+{
+    Description {
+        length: wire::read32(bytes, 4),
+        first: wire::read32(bytes, 8),
+        block: wire::read32(bytes, 12),
+        entries: wire::read32(bytes, 16),
+        table: wire::read16(bytes, 20) as u16,
+    }
+}
+
+// The number of the first rule that the bytes of an extended element break as a record, 0 where they break none.
+fn record_fault(bytes: &[u8]) -> usize
+    ensures { λ r. ⌜ r ≡ recordFault (now (bytes .entry)) ⌝ }
+{
+    if bytes.len() < KIND_BYTES {
+        return CHAIN;
+    }
+    if wire::read32(bytes, 0) != LINKED_KIND {
+        return STORAGE;
+    }
+    if bytes.len() != RECORD_BYTES {
+        return CHAIN;
+    }
+    let d = read_description(bytes);
+    if d.first == 0 {
+        return CHAIN;
+    }
+    if d.block == 0 {
+        return CHAIN;
+    }
+    if d.entries == 0 {
+        return CHAIN;
+    }
+    0
+}
+
+// The table or block with a reference.
+fn find_linked(image: &[u8], blocks: usize, reference: u16) -> Linked
+    requires { ⌜ Opens (now image) blocks ⌝ }
+    ensures { λ r. ⌜ r ≡ standsAt (now (image .entry)) (linkedAt (now (image .entry)) reference) ⌝ }
+{
+    if reference == 0 {
+        return Linked::Nothing;
+    }
+    match super::view::locate(image, blocks, LINKED_TAG, reference) {
+        Located::Refused(_) => Linked::Nothing,
+        Located::Plain {
+            slot: _,
+            offset,
+            length,
+        } => Linked::Part { offset, length },
+    }
+}
+
+fn least(a: usize, b: usize) -> usize
+    ensures { λ r. ⌜ r ≡ min a b ⌝ }
+{
+    if a < b {
+        return a;
+    }
+    b
+}
+
+// How many bytes the block of an index gives where so many are left.
+fn share_of(d: Description, index: usize, left: usize) -> usize
+    ensures { λ r. ⌜ r ≡ share d index left ⌝ }
+{
+    if index == 0 {
+        return least(d.first, left);
+    }
+    least(d.block, left)
+}
+
+// Whether one of the first tables has a reference.
+fn seen(tables: &[u16; 256], count: usize, reference: u16) -> bool
+    requires { ⌜ (length (now tables) ≡ 256) × (count ≤ 256) ⌝ }
+    ensures { λ r. ⌜ r ≡ any (eqb reference) (take count (now (tables .entry))) ⌝ }
+{
+    let mut i = 0;
+    while i < count {
+        if reference == tables[i] {
+            return true;
+        }
+        i += 1;
+    }
+    false
+}
+
+// Copies what the blocks of one table give, of which the first has an index, where so many bytes are missing, up to the first fault.
+fn take_blocks(
+    image: &[u8],
+    blocks: usize,
+    d: Description,
+    table: &[u8],
+    first: usize,
+    missing: usize,
+    out: &mut [u8],
+) -> Taken
+    requires { ⌜ Opens (now image) blocks × Small d × Reached d first missing ⌝ }
+    ensures { λ r. ⌜ Took (blocksFrom (now (image .entry)) d (now (table .entry)) (d .entries) 0 first missing) (d .length - missing) (now (out .entry)) (now (out .exit)) r ⌝ }
+{
+    let mut left = missing;
+    let mut entry = 0;
+    while entry < d.entries {
+        if left == 0 {
+            return Taken { left, fault: 0 };
+        }
+        let share = share_of(d, first + entry, left);
+        let reference = wire::read16(table, 2 + 2 * entry) as u16;
+        let Linked::Part { offset, length } = find_linked(image, blocks, reference) else {
+            return Taken { left, fault: CHAIN };
+        };
+        if length < share {
+            return Taken { left, fault: CHAIN };
+        }
+        wire::write_bytes(out, d.length - left, &image[offset..offset + share]);
+        left -= share;
+        entry += 1;
+    }
+    Taken { left, fault: 0 }
+}
+
+// Copies what the blocks of all tables give to the front of a buffer, as far as it reaches, up to the first fault: its number, 0 where
+// there is none.
+fn follow(image: &[u8], blocks: usize, d: Description, out: &mut [u8]) -> usize
+    requires { ⌜ Opens (now image) blocks × Small d ⌝ }
+    ensures { λ r. ⌜ Followed (chainOf (now (image .entry)) d) (now (out .entry)) (now (out .exit)) r ⌝ }
+{
+    let mut tables = [0u16; 256];
+    let mut count = 0;
+    let mut reference = d.table;
+    let mut index = 0;
+    let mut left = d.length;
+    while 0 < left {
+        if count == MOST_TABLES {
+            return CHAIN;
+        }
+        if seen(&tables, count, reference) {
+            return CHAIN;
+        }
+        let Linked::Part { offset, length } = find_linked(image, blocks, reference) else {
+            return CHAIN;
+        };
+        if length < 2 + 2 * d.entries {
+            return CHAIN;
+        }
+        let table = &image[offset..offset + length];
+        let taken = take_blocks(image, blocks, d, table, index, left, out);
+        if taken.fault != 0 {
+            return taken.fault;
+        }
+        tables[count] = reference;
+        count += 1;
+        reference = wire::read16(table, 0) as u16;
+        index += d.entries;
+        left = taken.left;
+    }
+    0
+}
+
+// Copies the bytes of the extended element of the slot at p to the front of a buffer. All is judged first, by a walk that has no buffer
+// to write to.
+pub(crate) fn copy(image: &[u8], blocks: usize, p: usize, out: &mut [u8]) -> Copied
+    requires { ⌜ Opens (now image) blocks × In p (slotsOf (now image)) × Live (now image) p ⌝ }
+    ensures { λ r. ⌜ Copies (copyAt (length (now (out .entry))) p (inBlocks (now (image .entry)) (contentAt (now (image .entry)) p))) (inBlocks (now (image .entry)) (contentAt (now (image .entry)) p) .bytes) (now (out .entry)) (now (out .exit)) r ⌝ }
+{
+    let offset = super::view::start(image, p);
+    let length = super::view::size(image, p);
+    let record = &image[offset..offset + length];
+    let broken = record_fault(record);
+    if broken != 0 {
+        return Copied::Refused(Refusal {
+            number: broken,
+            place: p,
+        });
+    }
+    let d = read_description(record);
+    if out.len() < d.length {
+        return Copied::Refused(Refusal {
+            number: SMALL,
+            place: 0,
+        });
+    }
+    let fault = follow(image, blocks, d, &mut out[..0]);
+    if fault != 0 {
+        return Copied::Refused(Refusal {
+            number: fault,
+            place: p,
+        });
+    }
+    follow(image, blocks, d, out);
+    Copied::Bytes(d.length)
+}
