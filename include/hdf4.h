@@ -28,6 +28,8 @@ enum hdf4_refusal {
     HDF4_ON_DIRECTORY = 9,  /* an element touches the header or a block */
     HDF4_TWICE = 10,        /* two live slots have the same base tag and reference */
     HDF4_ABSENT = 11,       /* no live slot has that base tag and reference */
+    HDF4_STORAGE = 12,      /* the element is extended, and not of a kind that the call reads */
+    HDF4_CHAIN = 13,        /* the linked blocks of the element are broken */
     HDF4_SMALL = 14,        /* the lent output is too short */
     HDF4_PRESENT = 18,      /* an element with that tag and reference is there already */
     HDF4_NO_ROOM = 19,      /* the buffer is shorter than the new image */
@@ -52,6 +54,22 @@ typedef struct {
 
 typedef struct {
     uint64_t number, place;
+    uint64_t offset, length; /* 0 and 0 where the element has no bytes */
+} hdf4_view_answer;
+
+typedef struct {
+    uint64_t number, place;
+    uint64_t length; /* of the element */
+} hdf4_copy_answer;
+
+typedef struct {
+    uint64_t number, place;
+    uint64_t which; /* 1 for the current image, 2 for the fallback */
+    uint64_t offset, length; /* in that image; 0 and 0 where the element has no bytes */
+} hdf4_choose_answer;
+
+typedef struct {
+    uint64_t number, place;
     uint64_t length; /* of the new image */
 } hdf4_edit_answer;
 
@@ -63,6 +81,18 @@ hdf4_find_answer hdf4_find(const uint8_t *image, size_t n, uint16_t tag, uint16_
 
 /* Lists the live slots in chain order to the front of a lent table: tag, reference, offset and length of each, as they are stored. */
 hdf4_list_answer hdf4_list(const uint8_t *image, size_t n, uint32_t *table, size_t room);
+
+/* Finds an element's own part of the image. The element is plain: an extended one is refused at its slot. */
+hdf4_view_answer hdf4_view(const uint8_t *image, size_t n, uint16_t tag, uint16_t ref);
+
+/* Copies an element's bytes to the front of a lent output; the rest of it stays as it was. The element is plain or of linked blocks. The
+ * output may not lie in the image. */
+hdf4_copy_answer hdf4_copy(const uint8_t *image, size_t n, uint16_t tag, uint16_t ref, uint8_t *out, size_t room);
+
+/* Finds an element's own part of the current image or, where that has no such element, of the fallback. Both must open, and the element is
+ * plain: one that is extended in the current image is refused, whatever the fallback has. A refusal by the opening of an image, or by the
+ * element's storage, names a place in that image. */
+hdf4_choose_answer hdf4_choose(const uint8_t *current, size_t n, const uint8_t *fallback, size_t m, uint16_t tag, uint16_t ref);
 
 /* Edits and undo.
  *

@@ -1,6 +1,7 @@
 //! The command line: thin over the library. It reads files, writes them back and prints.
 
 mod edit;
+mod element;
 mod store;
 
 use std::env;
@@ -12,19 +13,21 @@ use std::process::ExitCode;
 
 const HELP: &str = "\
 usage: hdf4 list FILE
+       hdf4 read FILE TAG REF [OUT]
        hdf4 add FILE TAG REF DATAFILE
        hdf4 replace FILE TAG REF DATAFILE
        hdf4 remove FILE TAG REF
        hdf4 undo FILE
 
   list       the elements of a file: tag, reference, offset and length of each, in the order of its directory
+  read       the bytes of an element, plain or of linked blocks, to the file OUT or to standard output
   add        adds an element with the bytes of DATAFILE
   replace    gives an element the bytes of DATAFILE
   remove     removes an element
   undo       undoes the last edit that is not undone yet: the file is as before it, byte for byte
 
-TAG and REF are numbers from 0 to 65535, decimal or with 0x before them. DATAFILE - is standard input. A crash in the middle of
-an edit leaves the old file or the new one.
+TAG and REF are numbers from 0 to 65535, decimal or with 0x before them. DATAFILE - is standard input, OUT - standard output.
+A crash in the middle of a command leaves the old file or the new one.
 ";
 
 fn read(path: &Path) -> Result<Vec<u8>, String> {
@@ -44,10 +47,21 @@ fn list(path: &Path) -> Result<String, String> {
     Ok(text)
 }
 
-fn run(words: &[OsString]) -> Result<String, String> {
+/// What a command prints: the bytes of an element, or text.
+fn run(words: &[OsString]) -> Result<Vec<u8>, String> {
     let command = words.first().and_then(|word| word.to_str()).unwrap_or("");
     let words: Vec<&OsStr> = words.iter().skip(1).map(OsString::as_os_str).collect();
     match (command, words.as_slice()) {
+        ("read", [path, tag, reference]) => element::read(Path::new(path), edit::pair(tag, reference)?),
+        ("read", [path, tag, reference, out]) if *out == "-" => element::read(Path::new(path), edit::pair(tag, reference)?),
+        (command, words) => tell(command, words).map(String::into_bytes),
+    }
+}
+
+/// The text that a command prints.
+fn tell(command: &str, words: &[&OsStr]) -> Result<String, String> {
+    match (command, words) {
+        ("read", [path, tag, reference, out]) => element::read_to(Path::new(path), edit::pair(tag, reference)?, Path::new(out)),
         ("list", [path]) => list(Path::new(path)),
         ("add", [path, tag, reference, data]) => edit::add(Path::new(path), edit::pair(tag, reference)?, data),
         ("replace", [path, tag, reference, data]) => edit::replace(Path::new(path), edit::pair(tag, reference)?, data),
@@ -58,10 +72,16 @@ fn run(words: &[OsString]) -> Result<String, String> {
     }
 }
 
+fn print(bytes: &[u8]) -> io::Result<()> {
+    let mut out = io::stdout().lock();
+    out.write_all(bytes)?;
+    out.flush()
+}
+
 fn main() -> ExitCode {
     let words: Vec<OsString> = env::args_os().skip(1).collect();
     match run(&words) {
-        Ok(text) => match io::stdout().write_all(text.as_bytes()) {
+        Ok(bytes) => match print(&bytes) {
             Ok(()) => ExitCode::SUCCESS,
             Err(_) => ExitCode::FAILURE,
         },

@@ -7,18 +7,42 @@ use std::os::unix::fs::{fchown, MetadataExt};
 use std::path::{Path, PathBuf};
 use std::process;
 
+/// Writes a file, be it new or there already.
+pub fn put(path: &Path, bytes: &[u8]) -> io::Result<()> {
+    match fs::symlink_metadata(path) {
+        Err(e) if e.kind() == ErrorKind::NotFound => create(path, bytes),
+        _ => replace(path, bytes),
+    }
+}
+
+/// Writes a file that does not exist yet.
+fn create(path: &Path, bytes: &[u8]) -> io::Result<()> {
+    let name = path.file_name().ok_or(io::Error::new(ErrorKind::InvalidInput, "not the name of a file"))?;
+    let folder = path.parent().filter(|folder| !folder.as_os_str().is_empty()).unwrap_or(Path::new("."));
+    let path = fs::canonicalize(folder)?.join(name);
+    let (temporary, mut file) = create_beside(&path)?;
+    let written = file.write_all(bytes).and_then(|()| file.sync_all());
+    give_name(&temporary, &path, written)
+}
+
 /// Replaces the bytes of a file that exists. A symbolic link to it stays one.
 pub fn replace(path: &Path, bytes: &[u8]) -> io::Result<()> {
     let path = fs::canonicalize(path)?;
     let old = writable(&path)?;
     let (temporary, file) = create_beside(&path)?;
-    let done = write(file, bytes, &old).and_then(|()| fs::rename(&temporary, &path));
+    let written = write(file, bytes, &old);
+    give_name(&temporary, &path, written)
+}
+
+/// Gives the temporary file the name, if all was written to it.
+fn give_name(temporary: &Path, path: &Path, written: io::Result<()>) -> io::Result<()> {
+    let done = written.and_then(|()| fs::rename(temporary, path));
     if done.is_err() {
         // The fault of the write is the one to report.
-        let _ = fs::remove_file(&temporary);
+        let _ = fs::remove_file(temporary);
     }
     done?;
-    File::open(folder_of(&path))?.sync_all()
+    File::open(folder_of(path))?.sync_all()
 }
 
 /// Owner and permissions of a regular file that the user may write to.

@@ -2,6 +2,7 @@
 
 pub mod directory;
 pub mod edits;
+pub mod storage;
 
 use crate::ffi::Answer;
 use crate::lent::{surround, Lent};
@@ -54,7 +55,8 @@ pub fn compare_huge(image: &[u8], random: &mut Random, tally: &mut Tally) -> Out
 
 fn compare_lent(mut trial: Trial, pairs: Pairs) -> Outcome {
     trial.tally.files += 1;
-    directory::compare(&mut trial, pairs)
+    directory::compare(&mut trial, pairs)?;
+    storage::compare(&mut trial, pairs)
 }
 
 impl Trial<'_> {

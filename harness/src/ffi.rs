@@ -49,6 +49,21 @@ answer! {
 }
 
 answer! {
+    /// The answer of `hdf4_view`: the element's part of the image.
+    Viewed { offset, length }
+}
+
+answer! {
+    /// The answer of `hdf4_copy`: how many bytes were written.
+    Copied { length }
+}
+
+answer! {
+    /// The answer of `hdf4_choose`: 1 for the current file or 2 for the fallback, and the element's part of that one.
+    Chosen { which, offset, length }
+}
+
+answer! {
     /// The answer of an edit or an undo: the length of the new file.
     Edited { length }
 }
@@ -57,6 +72,9 @@ extern "C" {
     fn hdf4_open(image: *const u8, n: usize) -> Opened;
     fn hdf4_find(image: *const u8, n: usize, tag: u16, reference: u16) -> Found;
     fn hdf4_list(image: *const u8, n: usize, list: *mut u32, room: usize) -> Listed;
+    fn hdf4_view(image: *const u8, n: usize, tag: u16, reference: u16) -> Viewed;
+    fn hdf4_copy(image: *const u8, n: usize, tag: u16, reference: u16, out: *mut u8, room: usize) -> Copied;
+    fn hdf4_choose(current: *const u8, n: usize, fallback: *const u8, m: usize, tag: u16, reference: u16) -> Chosen;
     fn hdf4_add(
         buffer: *mut u8,
         capacity: usize,
@@ -94,6 +112,22 @@ pub fn find(image: &[u8], tag: u16, reference: u16) -> Found {
 /// Writes tag, reference, offset and length of each live slot, in chain order, to the front of `list`.
 pub fn list(image: &[u8], list: &mut [u32]) -> Listed {
     unsafe { hdf4_list(image.as_ptr(), image.len(), list.as_mut_ptr(), list.len()) }
+}
+
+/// Finds the element's own part of the image.
+pub fn view(image: &[u8], tag: u16, reference: u16) -> Viewed {
+    unsafe { hdf4_view(image.as_ptr(), image.len(), tag, reference) }
+}
+
+/// Writes the element's bytes to the front of `out`.
+pub fn copy(image: &[u8], tag: u16, reference: u16, out: &mut [u8]) -> Copied {
+    unsafe { hdf4_copy(image.as_ptr(), image.len(), tag, reference, out.as_mut_ptr(), out.len()) }
+}
+
+/// Finds the element's own part of the current image or, where it has no such element, of the fallback.
+pub fn choose(current: &[u8], fallback: &[u8], tag: u16, reference: u16) -> Chosen {
+    let (n, m) = (current.len(), fallback.len());
+    unsafe { hdf4_choose(current.as_ptr(), n, fallback.as_ptr(), m, tag, reference) }
 }
 
 /// Adds an element to the file in the first `n` bytes of a buffer.

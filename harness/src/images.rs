@@ -4,6 +4,7 @@ pub mod accepted;
 mod damage;
 mod draft;
 mod limits;
+pub mod linked;
 mod noise;
 
 use crate::random::Random;

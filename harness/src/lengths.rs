@@ -2,7 +2,9 @@
 //! first read or written, so the run stays small as long as nobody goes through the whole image.
 
 mod edits;
+mod elements;
 
+use crate::compare::storage::compare_huge_two;
 use crate::compare::{compare_huge, Difference};
 use crate::random::Random;
 use crate::reader::{FIRST_BYTES, MOST_BYTES};
@@ -20,6 +22,7 @@ pub fn compare_lengths(random: &mut Random, tally: &mut Tally) -> Result<Option<
     let before = page_faults();
     too_long(&memory, random, tally).map_err(|difference| difference.to_string())?;
     greatest(&mut memory, random, tally).map_err(|difference| difference.to_string())?;
+    elements::compare_long_copies(&mut memory, tally)?;
     edits::compare_long_files(&mut memory, tally)?;
     drop(memory);
     edits::compare_long_data(tally)?;
@@ -34,6 +37,8 @@ pub fn compare_lengths(random: &mut Random, tally: &mut Tally) -> Result<Option<
 fn too_long(memory: &[u8], random: &mut Random, tally: &mut Tally) -> Result<(), Difference> {
     for n in [MOST + 1, 1 << 32, (1 << 32) + 10] {
         compare_huge(&memory[..n], random, tally)?;
+        compare_huge_two(&memory[..n], &memory[..10], random, tally)?;
+        compare_huge_two(&memory[..10], &memory[..n], random, tally)?;
     }
     Ok(())
 }

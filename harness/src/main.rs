@@ -1,14 +1,19 @@
 //! Holds the library against an independent reader and editor and a history of files: on generated files, on random sequences
 //! of edits, on images of the greatest length, on the marked cases of the written rules and on real files.
 //!
-//!     harness [--seed N] [--files N] [--sequences N]    everything; stops at the first difference
+//!     harness [--seed N] [--files N] [--elements N] [--sequences N]
+//!                                                       everything; stops at the first difference
 //!     harness [--seed N] --index N                      one generated file again, with its bytes
+//!     harness [--seed N] --element N                    one file with linked elements again, with its bytes
 //!     harness [--seed N] --sequence N                   one sequence again, with its calls
 //!     harness --file PATH                               one file
+//!     harness --bench                                   how fast an element is copied
 
+mod bench;
 mod cases;
 mod compare;
 mod editor;
+mod elements;
 mod ffi;
 mod files;
 mod history;
@@ -18,6 +23,7 @@ mod lent;
 mod random;
 mod reader;
 mod sequences;
+mod storage;
 mod tally;
 
 use compare::{compare, Pairs};
@@ -30,16 +36,20 @@ use tally::Tally;
 
 const DEFAULT_SEED: u64 = 19_930_401;
 const DEFAULT_FILES: u64 = 250_000;
+const DEFAULT_ELEMENTS: u64 = 40_000;
 const DEFAULT_SEQUENCES: u64 = 30_000;
 
 /// What the arguments ask for.
 struct Options {
     seed: u64,
     files: u64,
+    elements: u64,
     sequences: u64,
     index: Option<u64>,
+    element: Option<u64>,
     sequence: Option<u64>,
     file: Option<PathBuf>,
+    bench: bool,
 }
 
 fn main() -> ExitCode {
@@ -57,19 +67,28 @@ fn options() -> Result<Options, String> {
     let mut options = Options {
         seed: DEFAULT_SEED,
         files: DEFAULT_FILES,
+        elements: DEFAULT_ELEMENTS,
         sequences: DEFAULT_SEQUENCES,
         index: None,
+        element: None,
         sequence: None,
         file: None,
+        bench: false,
     };
     let mut arguments = std::env::args().skip(1);
     while let Some(name) = arguments.next() {
+        if name == "--bench" {
+            options.bench = true;
+            continue;
+        }
         let value = arguments.next().ok_or(format!("{name}: a value is missing"))?;
         match name.as_str() {
             "--seed" => options.seed = number(&value)?,
             "--files" => options.files = number(&value)?,
+            "--elements" => options.elements = number(&value)?,
             "--sequences" => options.sequences = number(&value)?,
             "--index" => options.index = Some(number(&value)?),
+            "--element" => options.element = Some(number(&value)?),
             "--sequence" => options.sequence = Some(number(&value)?),
             "--file" => options.file = Some(value.into()),
             _ => return Err(format!("{name}: no such option")),
@@ -85,11 +104,17 @@ fn number(value: &str) -> Result<u64, String> {
 fn run(options: &Options) -> Result<(), String> {
     let mut tally = Tally::default();
     let mut random = Random::new(options.seed, u64::MAX);
+    if options.bench {
+        return bench::copy_against_memory();
+    }
     if let Some(path) = &options.file {
         return files::show(path, &mut random, &mut tally);
     }
     if let Some(index) = options.index {
         return show_generated(options.seed, index, &mut tally);
+    }
+    if let Some(index) = options.element {
+        return elements::show(options.seed, index, &mut tally);
     }
     if let Some(index) = options.sequence {
         return sequences::show(options.seed, index, &mut tally);
@@ -117,12 +142,18 @@ fn run_all(options: &Options, random: &mut Random, tally: &mut Tally) -> Result<
 
 /// The generated files and sequences.
 fn run_generated(options: &Options, tally: &mut Tally) -> Result<(), String> {
-    let Options { seed, files, sequences, .. } = options;
+    let Options { seed, files, elements, sequences, .. } = options;
     let start = Instant::now();
     for index in 0..*files {
         compare_generated(*seed, index, tally)?;
     }
     println!("{files} generated files, seed {seed}, {:.1} s", start.elapsed().as_secs_f64());
+
+    let start = Instant::now();
+    for index in 0..*elements {
+        elements::compare(*seed, index, tally)?;
+    }
+    println!("{elements} files with linked elements, seed {seed}, {:.1} s", start.elapsed().as_secs_f64());
 
     let start = Instant::now();
     for index in 0..*sequences {

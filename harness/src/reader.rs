@@ -83,11 +83,16 @@ impl Directory {
 
     /// The place of the live slot with the base tag of `tag` and the reference.
     pub fn find(&self, tag: u16, reference: u16) -> Result<u64, Refusal> {
-        let wanted = (base_tag(tag), reference);
-        match self.live().find(|slot| (slot.base_tag(), slot.reference) == wanted) {
+        match self.slot(tag, reference) {
             Some(slot) => Ok(slot.place),
             None => refuse(ABSENT, 0),
         }
+    }
+
+    /// The live slot with the base tag of `tag` and the reference.
+    pub fn slot(&self, tag: u16, reference: u16) -> Option<&Slot> {
+        let wanted = (base_tag(tag), reference);
+        self.live().find(|slot| (slot.base_tag(), slot.reference) == wanted)
     }
 
     /// Tag, reference, offset and length of each live slot, as stored.

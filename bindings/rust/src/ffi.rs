@@ -24,6 +24,30 @@ pub struct ListAnswer {
 }
 
 #[repr(C)]
+pub struct ViewAnswer {
+    pub number: u64,
+    pub place: u64,
+    pub offset: u64,
+    pub length: u64,
+}
+
+#[repr(C)]
+pub struct CopyAnswer {
+    pub number: u64,
+    pub place: u64,
+    pub length: u64,
+}
+
+#[repr(C)]
+pub struct ChooseAnswer {
+    pub number: u64,
+    pub place: u64,
+    pub which: u64,
+    pub offset: u64,
+    pub length: u64,
+}
+
+#[repr(C)]
 pub struct EditAnswer {
     pub number: u64,
     pub place: u64,
@@ -34,6 +58,9 @@ extern "C" {
     fn hdf4_open(image: *const u8, n: usize) -> OpenAnswer;
     fn hdf4_find(image: *const u8, n: usize, tag: u16, reference: u16) -> FindAnswer;
     fn hdf4_list(image: *const u8, n: usize, table: *mut u32, room: usize) -> ListAnswer;
+    fn hdf4_view(image: *const u8, n: usize, tag: u16, reference: u16) -> ViewAnswer;
+    fn hdf4_copy(image: *const u8, n: usize, tag: u16, reference: u16, out: *mut u8, room: usize) -> CopyAnswer;
+    fn hdf4_choose(current: *const u8, n: usize, fallback: *const u8, m: usize, tag: u16, reference: u16) -> ChooseAnswer;
     fn hdf4_add(b: *mut u8, capacity: usize, n: u64, tag: u16, reference: u16, data: *const u8, size: usize) -> EditAnswer;
     fn hdf4_replace(b: *mut u8, capacity: usize, n: u64, tag: u16, reference: u16, data: *const u8, size: usize) -> EditAnswer;
     fn hdf4_remove(b: *mut u8, capacity: usize, n: u64, tag: u16, reference: u16) -> EditAnswer;
@@ -50,6 +77,18 @@ pub fn find(image: &[u8], tag: u16, reference: u16) -> FindAnswer {
 
 pub fn list(image: &[u8], table: &mut [u32]) -> ListAnswer {
     unsafe { hdf4_list(image.as_ptr(), image.len(), table.as_mut_ptr(), table.len()) }
+}
+
+pub fn view(image: &[u8], tag: u16, reference: u16) -> ViewAnswer {
+    unsafe { hdf4_view(image.as_ptr(), image.len(), tag, reference) }
+}
+
+pub fn copy(image: &[u8], tag: u16, reference: u16, out: &mut [u8]) -> CopyAnswer {
+    unsafe { hdf4_copy(image.as_ptr(), image.len(), tag, reference, out.as_mut_ptr(), out.len()) }
+}
+
+pub fn choose(current: &[u8], fallback: &[u8], tag: u16, reference: u16) -> ChooseAnswer {
+    unsafe { hdf4_choose(current.as_ptr(), current.len(), fallback.as_ptr(), fallback.len(), tag, reference) }
 }
 
 pub fn add(buffer: &mut [u8], n: u64, tag: u16, reference: u16, data: &[u8]) -> EditAnswer {

@@ -2,6 +2,11 @@
 //!
 //! An image is the bytes of a whole file. Nothing is kept between calls, and nothing is allocated but the list of elements.
 //!
+//! # Reading
+//!
+//! [`view`] gives an element's own part of the image, [`choose`] that of the first of two images that has the element, and
+//! [`copy`] writes its bytes to a buffer, also where the element is of linked blocks.
+//!
 //! # Edits
 //!
 //! [`add`], [`replace`], [`remove`] and [`undo`] take a buffer with an image at its front and the image's length, and give the
@@ -23,9 +28,7 @@
 //! // Finds it again.
 //! let image = &buffer[..length];
 //! assert_eq!(hdf4::find(image, 40000, 5)?, 16);
-//! let element = hdf4::list(image)?[0];
-//! let start = element.offset as usize;
-//! assert_eq!(&image[start..start + element.length as usize], closure);
+//! assert_eq!(hdf4::view(image, 40000, 5)?, closure);
 //!
 //! // Takes it back: the file is as it was.
 //! let length = hdf4::undo(&mut buffer, length)?;
@@ -64,6 +67,10 @@ pub enum Rule {
     Twice,
     /// No live slot has that base tag and reference.
     Absent,
+    /// The element is extended, and not of a kind that the call reads.
+    Storage,
+    /// The linked blocks of the element are broken.
+    Chain,
     /// The lent output is too short.
     Small,
     /// An element with that base tag and reference is there already.
@@ -77,7 +84,7 @@ pub enum Rule {
 }
 
 /// Each rule with its number, its name, and what it says.
-const RULES: [(u64, Rule, &str, &str); 16] = [
+const RULES: [(u64, Rule, &str, &str); 18] = [
     (1, Rule::TooLong, "TOO_LONG", "the file is too long"),
     (2, Rule::NotHdf, "NOT_HDF", "this is no HDF4 file"),
     (3, Rule::DirCut, "DIR_CUT", "a block of descriptors is not wholly inside the file"),
@@ -89,6 +96,8 @@ const RULES: [(u64, Rule, &str, &str); 16] = [
     (9, Rule::OnDirectory, "ON_DIRECTORY", "an element touches the header or a block of descriptors"),
     (10, Rule::Twice, "TWICE", "two elements have the same tag and reference"),
     (11, Rule::Absent, "ABSENT", "there is no element with that tag and reference"),
+    (12, Rule::Storage, "STORAGE", "the element is stored in a way that is not read here"),
+    (13, Rule::Chain, "CHAIN", "the linked blocks of the element are broken"),
     (14, Rule::Small, "SMALL", "the output is too short"),
     (18, Rule::Present, "PRESENT", "there is already an element with that tag and reference"),
     (19, Rule::NoRoom, "NO_ROOM", "the buffer has no room for the edit"),
@@ -185,6 +194,43 @@ pub fn list(image: &[u8]) -> Result<Vec<Element>, Error> {
     granted(a.number, a.place, table.chunks_exact(4).map(element).collect())
 }
 
+/// The file that an element was chosen from.
+#[derive(Clone, Copy, Debug, PartialEq, Eq)]
+pub enum Source {
+    Current,
+    Fallback,
+}
+
+/// The part of an image that an answer names.
+fn part(image: &[u8], offset: u64, length: u64) -> &[u8] {
+    let start = offset as usize;
+    &image[start..start + length as usize]
+}
+
+/// Gives an element's own part of the image, empty where the element has no bytes. An extended element is refused.
+pub fn view(image: &[u8], tag: u16, reference: u16) -> Result<&[u8], Error> {
+    let a = ffi::view(image, tag, reference);
+    granted(a.number, a.place, ())?;
+    Ok(part(image, a.offset, a.length))
+}
+
+/// Copies an element's bytes to the front of `out` and gives their number; the rest of `out` stays as it was. The element is
+/// plain or of linked blocks.
+pub fn copy(image: &[u8], tag: u16, reference: u16, out: &mut [u8]) -> Result<usize, Error> {
+    let a = ffi::copy(image, tag, reference, out);
+    granted(a.number, a.place, a.length as usize)
+}
+
+/// Gives an element's own part of the current image or, where that has no such element, of the fallback.
+///
+/// Both images must open. An element that is extended in the current image is refused, whatever the fallback has.
+pub fn choose<'a>(current: &'a [u8], fallback: &'a [u8], tag: u16, reference: u16) -> Result<(Source, &'a [u8]), Error> {
+    let a = ffi::choose(current, fallback, tag, reference);
+    granted(a.number, a.place, ())?;
+    let (source, image) = if a.which == 1 { (Source::Current, current) } else { (Source::Fallback, fallback) };
+    Ok((source, part(image, a.offset, a.length)))
+}
+
 fn edited(answer: ffi::EditAnswer) -> Result<usize, Error> {
     granted(answer.number, answer.place, answer.length as usize)
 }
@@ -237,6 +283,55 @@ mod tests {
         assert_eq!((absent.rule, absent.name(), absent.number, absent.place), (Rule::Absent, "ABSENT", 11, 0));
         assert_eq!(open(b"").unwrap_err().rule, Rule::NotHdf);
         assert_eq!(open(&A[..10]).unwrap_err().to_string(), "DIR_CUT: a block of descriptors is not wholly inside the file (number 3, place 4)");
+    }
+
+    /// Linked element 100/1 of seven bytes: the record at 46, then its table 20/1 and the block 20/2, which both entries name.
+    const LINKED: [u8; 80] = *b"\x0e\x03\x13\x01\x00\x03\x00\x00\x00\x00\
+                                \x40\x64\x00\x01\x00\x00\x00\x2e\x00\x00\x00\x16\
+                                \x00\x14\x00\x01\x00\x00\x00\x44\x00\x00\x00\x06\
+                                \x00\x14\x00\x02\x00\x00\x00\x4a\x00\x00\x00\x06\
+                                \x00\x00\x00\x01\x00\x00\x00\x07\x00\x00\x00\x04\x00\x00\x00\x05\x00\x00\x00\x02\x00\x01\
+                                \x00\x00\x00\x02\x00\x02bypass";
+
+    #[test]
+    fn an_element_is_viewed_where_it_lies() {
+        let part = view(&A, 100, 1).unwrap();
+        assert_eq!(part, b"hub");
+        assert_eq!(part.as_ptr(), A[34..].as_ptr());
+        assert_eq!(view(&A, 100, 2).unwrap_err().rule, Rule::Absent);
+        let extended = view(&LINKED, 100, 1).unwrap_err();
+        assert_eq!((extended.rule, extended.number, extended.place), (Rule::Storage, 12, 10));
+    }
+
+    #[test]
+    fn a_plain_and_a_linked_element_are_copied() {
+        let mut out = [BEHIND; 9];
+        assert_eq!(copy(&A, 100, 1, &mut out), Ok(3));
+        assert_eq!(&out, b"hub\xee\xee\xee\xee\xee\xee");
+        assert_eq!(copy(&LINKED, 100, 1, &mut out), Ok(7));
+        assert_eq!(&out, b"bypabyp\xee\xee");
+    }
+
+    #[test]
+    fn a_refused_copy_writes_nothing() {
+        let mut out = [BEHIND; 6];
+        assert_eq!(rule(copy(&A, 100, 1, &mut out[..2])), (Rule::Small, 14, 0));
+        assert_eq!(rule(copy(&LINKED, 100, 1, &mut out)), (Rule::Small, 14, 0));
+        let mut broken = LINKED;
+        broken[73] = 3;
+        assert_eq!(rule(copy(&broken, 100, 1, &mut [BEHIND; 7])), (Rule::Chain, 13, 10));
+        broken[49] = 3;
+        assert_eq!(rule(copy(&broken, 100, 1, &mut out)), (Rule::Storage, 12, 10));
+        assert_eq!(out, [BEHIND; 6]);
+    }
+
+    #[test]
+    fn the_current_file_comes_before_the_fallback() {
+        assert_eq!(choose(&A_ADDED, &A, 100, 1), Ok((Source::Current, &b"hub"[..])));
+        assert_eq!(choose(&A, &A_ADDED, 40000, 5), Ok((Source::Fallback, &b"\x2a"[..])));
+        assert_eq!(choose(&A, &A_ADDED, 40000, 6).unwrap_err().rule, Rule::Absent);
+        assert_eq!(choose(&LINKED, &A, 100, 1).unwrap_err().rule, Rule::Storage);
+        assert_eq!(choose(&A, b"", 100, 1).unwrap_err().rule, Rule::NotHdf);
     }
 
     /// File A after the add of marked case 12: 40000/5 with byte 2a in the second slot, then the trailer.

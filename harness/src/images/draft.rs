@@ -122,7 +122,7 @@ pub fn fill_slots(random: &mut Random, draft: &mut Draft, free: usize) {
 }
 
 /// A free slot, the other fields anything.
-fn free_slot(random: &mut Random) -> Slot {
+pub fn free_slot(random: &mut Random) -> Slot {
     let ones = Slot { tag: FREE, reference: 0, offset: u32::MAX, length: u32::MAX };
     match random.below(4) {
         0 => Slot { offset: 0, length: 0, ..ones },
@@ -251,7 +251,7 @@ impl Draft {
         self.put(slot + 8, &length.to_be_bytes());
     }
 
-    fn put_slot(&mut self, place: usize, slot: &Slot) {
+    pub fn put_slot(&mut self, place: usize, slot: &Slot) {
         self.put_tag(place, slot.tag);
         self.put_reference(place, slot.reference);
         self.put_element(place, slot.offset, slot.length);

@@ -1,0 +1,203 @@
+//! Files with a linked element: its record, its tables and its blocks, whole or broken in one or more ways, beside a few other
+//! elements.
+
+mod faults;
+
+use super::draft::{absurd_offset, free_slot, lay_out, Draft, Slot};
+use crate::random::Random;
+use crate::reader::{EXTENDED, MACHINE_TYPE};
+use crate::storage::{LINKED, LINK_TAG, MOST_TABLES};
+
+/// One linked file in so many has a long chain of tables.
+const LONG_EVERY: usize = 250;
+
+/// Where the fields of a record stand.
+const KIND: usize = 0;
+const LENGTH: usize = 4;
+const FIRST_LENGTH: usize = 8;
+const BLOCK_LENGTH: usize = 12;
+const BLOCK_COUNT: usize = 16;
+const TABLE: usize = 20;
+
+/// An element to be: tag, reference and bytes.
+struct Part {
+    tag: u16,
+    reference: u16,
+    bytes: Vec<u8>,
+}
+
+/// The parts of a linked element: the record, the tables in chain order, the blocks in the order in which they are taken.
+struct Plan {
+    record: Part,
+    tables: Vec<Part>,
+    blocks: Vec<Part>,
+    others: Vec<Part>,
+}
+
+/// How many tables and blocks, and how long they are.
+struct Shape {
+    tables: usize,
+    block_count: usize,
+    blocks: usize,
+    first_length: usize,
+    block_length: usize,
+    length: usize,
+}
+
+pub fn image(random: &mut Random) -> Vec<u8> {
+    let shape = if random.once_in(LONG_EVERY) { long(random) } else { short(random) };
+    let mut plan = plan(random, &shape);
+    for _ in 0..random.pick(&[0, 0, 1, 1, 1, 1, 1, 2, 2, 3]) {
+        faults::spoil(random, &mut plan);
+    }
+    lay(random, plan)
+}
+
+/// Up to five tables, of up to four blocks.
+fn short(random: &mut Random) -> Shape {
+    let block_count = random.between(1, 4);
+    let tables = random.pick(&[1, 1, 2, 2, 3, 5]);
+    let blocks = random.between((tables - 1) * block_count + 1, tables * block_count);
+    shape(random, tables, block_count, blocks)
+}
+
+/// Around 256 tables and up to 300, most of them with one block.
+fn long(random: &mut Random) -> Shape {
+    let block_count = random.pick(&[1, 1, 1, 2]);
+    let many = random.between(250, 300);
+    let tables = random.pick(&[MOST_TABLES - 1, MOST_TABLES, MOST_TABLES, MOST_TABLES + 1, MOST_TABLES + 1, many]);
+    shape(random, tables, block_count, tables * block_count)
+}
+
+/// Lengths such that all the blocks are needed; at times fewer, or none.
+fn shape(random: &mut Random, tables: usize, block_count: usize, blocks: usize) -> Shape {
+    let first_length = random.between(1, 12);
+    let block_length = if random.once_in(3) { first_length } else { random.between(1, 12) };
+    let last = random.between(1, if blocks == 1 { first_length } else { block_length });
+    let whole = if blocks == 1 { last } else { first_length + (blocks - 2) * block_length + last };
+    let fewer = random.below(whole + 1);
+    let length = match random.below(20) {
+        0 => 0,
+        1..=4 => fewer,
+        _ => whole,
+    };
+    Shape { tables, block_count, blocks, first_length, block_length, length }
+}
+
+fn plan(random: &mut Random, shape: &Shape) -> Plan {
+    let names = references(random, shape.tables + shape.blocks);
+    let (table_names, block_names) = names.split_at(shape.tables);
+    let reference = random.below(4) as u16;
+    let tag = random.pick(&[100, 302, 702, 1963]) + EXTENDED;
+    Plan {
+        record: Part { tag, reference, bytes: record(shape, table_names[0]) },
+        tables: (0..shape.tables).map(|index| table(random, shape, table_names, block_names, index)).collect(),
+        blocks: (0..shape.blocks).map(|index| block(random, shape, block_names, index)).collect(),
+        others: others(random),
+    }
+}
+
+/// Different references, none of them 0.
+fn references(random: &mut Random, count: usize) -> Vec<u16> {
+    let (start, step) = (random.u16(), random.u16() | 1);
+    let all = (0..=u16::MAX).map(|index| start.wrapping_add(index.wrapping_mul(step)));
+    all.filter(|reference| *reference != 0).take(count).collect()
+}
+
+fn record(shape: &Shape, table: u16) -> Vec<u8> {
+    let lengths = [shape.length, shape.first_length, shape.block_length, shape.block_count];
+    let mut bytes = LINKED.to_be_bytes().to_vec();
+    bytes.extend(lengths.map(|length| (length as u32).to_be_bytes()).concat());
+    bytes.extend(table.to_be_bytes());
+    bytes
+}
+
+/// The table with an index. What stands behind the last block and the last table is anything, as are bytes behind the entries.
+fn table(random: &mut Random, shape: &Shape, tables: &[u16], blocks: &[u16], index: usize) -> Part {
+    let behind = [0, tables[0], tables[index], random.u16()];
+    let mut bytes = tables.get(index + 1).copied().unwrap_or(random.pick(&behind)).to_be_bytes().to_vec();
+    for entry in index * shape.block_count..(index + 1) * shape.block_count {
+        let behind = [0, 0, blocks[0], random.u16()];
+        bytes.extend(blocks.get(entry).copied().unwrap_or(random.pick(&behind)).to_be_bytes());
+    }
+    if random.once_in(4) {
+        let more = random.between(1, 5);
+        bytes.extend(random.bytes(more));
+    }
+    Part { tag: LINK_TAG, reference: tables[index], bytes }
+}
+
+/// The block with an index: as many bytes as are taken from it, or more.
+fn block(random: &mut Random, shape: &Shape, names: &[u16], index: usize) -> Part {
+    let before = if index == 0 { 0 } else { shape.first_length + (index - 1) * shape.block_length };
+    let most = if index == 0 { shape.first_length } else { shape.block_length };
+    let taken = shape.length.saturating_sub(before).min(most);
+    let more = random.between(0, 6);
+    let size = random.pick(&[taken, taken, most, taken + more]);
+    Part { tag: LINK_TAG, reference: names[index], bytes: random.bytes(size) }
+}
+
+/// A few elements beside the linked one, plain, empty or of another kind. They may clash, but seldom do.
+fn others(random: &mut Random) -> Vec<Part> {
+    let mut parts = Vec::new();
+    for index in 0..random.below(4) {
+        let tag = random.pick(&[101, 303, 703, 40000]) + index as u16;
+        let extended = if tag < EXTENDED && random.once_in(3) { EXTENDED } else { 0 };
+        let size = random.pick(&[0, 1, 3, 22, 40]);
+        parts.push(Part { tag: tag + extended, reference: random.below(3) as u16, bytes: random.bytes(size) });
+    }
+    if random.once_in(6) {
+        let extended = if random.once_in(2) { EXTENDED } else { 0 };
+        parts.push(Part { tag: MACHINE_TYPE + extended, reference: random.below(3) as u16, bytes: vec![0; 30] });
+    }
+    parts
+}
+
+/// Lays the parts out in a file, in any order, with free slots among theirs.
+fn lay(random: &mut Random, plan: Plan) -> Vec<u8> {
+    let Plan { record, tables, blocks, others } = plan;
+    let mut parts: Vec<Part> = tables.into_iter().chain(blocks).chain(others).chain([record]).collect();
+    random.shuffle(&mut parts);
+    let slots = parts.len() + random.below(4);
+    let first = random.below(slots + 1);
+    let counts = if random.once_in(2) { vec![slots] } else { vec![first, slots - first] };
+    let mut draft = lay_out(random, &counts);
+    let mut parts = parts.into_iter().peekable();
+    for (index, place) in draft.slots().into_iter().enumerate() {
+        let is_free = slots - index > parts.len() && random.once_in(4);
+        let slot = match parts.next_if(|_| !is_free) {
+            Some(part) => append(random, &mut draft, part),
+            None => free_slot(random),
+        };
+        draft.put_slot(place, &slot);
+    }
+    draft.bytes
+}
+
+/// Appends the bytes of a part. An element of no bytes stands anywhere.
+fn append(random: &mut Random, draft: &mut Draft, part: Part) -> Slot {
+    let offset = match part.bytes.len() {
+        0 => absurd_offset(random, draft),
+        _ => draft.bytes.len() as u32,
+    };
+    draft.bytes.extend(&part.bytes);
+    Slot { tag: part.tag, reference: part.reference, offset, length: part.bytes.len() as u32 }
+}
+
+impl Part {
+    /// Writes bytes that lie inside the part; others are left out.
+    fn put(&mut self, place: usize, bytes: &[u8]) {
+        if let Some(part) = self.bytes.get_mut(place..place + bytes.len()) {
+            part.copy_from_slice(bytes);
+        }
+    }
+
+    fn put32(&mut self, place: usize, number: u32) {
+        self.put(place, &number.to_be_bytes());
+    }
+
+    fn get32(&self, place: usize) -> u32 {
+        let part = self.bytes.get(place..place + 4);
+        part.map_or(0, |part| u32::from_be_bytes([part[0], part[1], part[2], part[3]]))
+    }
+}

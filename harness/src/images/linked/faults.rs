@@ -1,0 +1,174 @@
+//! What can be wrong with a linked element. A table or block past the length is hit as well as one that is needed; then the
+//! element is whole nevertheless.
+
+use super::{Part, Plan, BLOCK_COUNT, BLOCK_LENGTH, FIRST_LENGTH, KIND, LENGTH, TABLE};
+use crate::random::Random;
+use crate::reader::{EXTENDED, FREE};
+
+type Fault = fn(&mut Random, &mut Plan);
+
+const FAULTS: [Fault; 20] = [
+    record_cut,
+    record_size,
+    other_kind,
+    zero_field,
+    less_length,
+    a_little_more_length,
+    absurd_length,
+    absurd_block_count,
+    absurd_block_length,
+    table_absent,
+    table_extended,
+    table_short,
+    table_again,
+    table_zero,
+    block_absent,
+    block_extended,
+    block_short,
+    block_again,
+    block_zero,
+    block_is_a_table,
+];
+
+pub fn spoil(random: &mut Random, plan: &mut Plan) {
+    let fault = random.pick(&FAULTS);
+    fault(random, plan);
+}
+
+fn record_cut(random: &mut Random, plan: &mut Plan) {
+    plan.record.bytes.truncate(random.below(4));
+}
+
+/// From 4 bytes on, but not 22.
+fn record_size(random: &mut Random, plan: &mut Plan) {
+    let size = random.pick(&[4, 8, 20, 21, 21, 23, 23, 24, 40]);
+    plan.record.bytes.resize(size, 0);
+}
+
+/// Another kind, at times in a short record.
+fn other_kind(random: &mut Random, plan: &mut Plan) {
+    let kind = random.pick(&[0, 2, 3, 5, 0x0001_0001, 0x0100_0000, u32::MAX]);
+    plan.record.put32(KIND, kind);
+    if random.once_in(3) {
+        plan.record.bytes.truncate(random.between(4, 22));
+    }
+}
+
+fn zero_field(random: &mut Random, plan: &mut Plan) {
+    plan.record.put32(random.pick(&[FIRST_LENGTH, BLOCK_LENGTH, BLOCK_COUNT]), 0);
+}
+
+/// Fewer bytes, so that the last tables and blocks are not needed; no byte at times.
+fn less_length(random: &mut Random, plan: &mut Plan) {
+    let length = plan.record.get32(LENGTH);
+    let fewer = random.below(length as usize + 1) as u32;
+    plan.record.put32(LENGTH, random.pick(&[fewer, fewer, fewer, length.saturating_sub(1), 0]));
+}
+
+/// A few bytes more than the blocks were made for.
+fn a_little_more_length(random: &mut Random, plan: &mut Plan) {
+    let length = plan.record.get32(LENGTH).wrapping_add(random.between(1, 13) as u32);
+    plan.record.put32(LENGTH, length);
+}
+
+fn absurd_length(random: &mut Random, plan: &mut Plan) {
+    let length = random.pick(&[100_000, 1 << 20, 1 << 31, u32::MAX - 1, u32::MAX]);
+    plan.record.put32(LENGTH, length);
+}
+
+/// More entries than the tables have, also such that 32 bits would cut their size.
+fn absurd_block_count(random: &mut Random, plan: &mut Plan) {
+    let more = plan.record.get32(BLOCK_COUNT).wrapping_add(1);
+    let count = random.pick(&[more, more, 0x7fff_fffe, 0x7fff_ffff, 1 << 31, (1 << 31) + 1, u32::MAX]);
+    plan.record.put32(BLOCK_COUNT, count);
+}
+
+fn absurd_block_length(random: &mut Random, plan: &mut Plan) {
+    let field = random.pick(&[FIRST_LENGTH, BLOCK_LENGTH]);
+    let more = plan.record.get32(field).wrapping_add(1);
+    plan.record.put32(field, random.pick(&[more, 1 << 31, u32::MAX]));
+}
+
+fn table_absent(random: &mut Random, plan: &mut Plan) {
+    any(random, &mut plan.tables).tag = FREE;
+}
+
+fn table_extended(random: &mut Random, plan: &mut Plan) {
+    extend(any(random, &mut plan.tables));
+}
+
+/// One byte short of its entries, or far shorter.
+fn table_short(random: &mut Random, plan: &mut Plan) {
+    let size = 2 + 2 * plan.record.get32(BLOCK_COUNT) as usize;
+    let fewer = random.pick(&[size.saturating_sub(1), size.saturating_sub(1), 2, 1, 0]);
+    any(random, &mut plan.tables).bytes.truncate(fewer);
+}
+
+/// A table leads back to itself or to one before it.
+fn table_again(random: &mut Random, plan: &mut Plan) {
+    let from = random.below(plan.tables.len());
+    let to = plan.tables[random.below(from + 1)].reference;
+    plan.tables[from].put(0, &to.to_be_bytes());
+}
+
+/// A reference of 0 leads to a table; at times there is a table with that reference.
+fn table_zero(random: &mut Random, plan: &mut Plan) {
+    let index = random.below(plan.tables.len());
+    match index {
+        0 => plan.record.put(TABLE, &[0, 0]),
+        _ => plan.tables[index - 1].put(0, &[0, 0]),
+    }
+    if random.once_in(2) {
+        plan.tables[index].reference = 0;
+    }
+}
+
+fn block_absent(random: &mut Random, plan: &mut Plan) {
+    any(random, &mut plan.blocks).tag = FREE;
+}
+
+fn block_extended(random: &mut Random, plan: &mut Plan) {
+    extend(any(random, &mut plan.blocks));
+}
+
+fn block_short(random: &mut Random, plan: &mut Plan) {
+    let bytes = &mut any(random, &mut plan.blocks).bytes;
+    bytes.truncate(bytes.len().saturating_sub(1));
+}
+
+/// An entry names a block that another entry names too, which is allowed.
+fn block_again(random: &mut Random, plan: &mut Plan) {
+    let block = any(random, &mut plan.blocks).reference;
+    put_entry(random, plan, block);
+}
+
+/// An entry is 0; at times there is a block with that reference.
+fn block_zero(random: &mut Random, plan: &mut Plan) {
+    put_entry(random, plan, 0);
+    if random.once_in(2) {
+        any(random, &mut plan.blocks).reference = 0;
+    }
+}
+
+/// An entry names a table, whose bytes are taken like any others.
+fn block_is_a_table(random: &mut Random, plan: &mut Plan) {
+    let table = any(random, &mut plan.tables).reference;
+    put_entry(random, plan, table);
+}
+
+fn put_entry(random: &mut Random, plan: &mut Plan, reference: u16) {
+    let table = any(random, &mut plan.tables);
+    let entries = (table.bytes.len() / 2).max(2) - 1;
+    table.put(2 + 2 * random.below(entries), &reference.to_be_bytes());
+}
+
+fn any<'a>(random: &mut Random, parts: &'a mut [Part]) -> &'a mut Part {
+    let index = random.below(parts.len());
+    &mut parts[index]
+}
+
+fn extend(part: &mut Part) {
+    if part.tag < EXTENDED && part.tag != FREE {
+        part.tag += EXTENDED;
+    }
+}
