@@ -9,8 +9,8 @@ use Rattle.directory.specs.Lookup.{has, find}
 use Rattle.storage.specs.Elements.{extendedAt, plainFault}
 use Rattle.storage.specs.Linked.{descriptionOf, recordFault, linkedAt, linkedBytes, tableFault, blockFault, blockBytes, share, blocksFrom, tablesFrom, chainOf}
 use Rattle.storage.specs.Copy.{inBlocks, storedAt}
-use Rattle.storage.specs.Cases.{L, Row, table}
+use Rattle.storage.specs.Cases.{numbers, L, Row, table}
 
 pub worked-cases : map (λ (r : Row). r .computed) table ≡ map (λ (r : Row). r .expected) table
-unfolding be bytes put part must any first blocks.meets blocks.meetsBlock blocks.onDirectory blocks.blockFault blocks.chainFrom blocks.chain blocks.blocksOf rows slotPlaces slotsOf liveAt baseTag sizeAt contentAt has find extendedAt plainFault descriptionOf recordFault linkedAt linkedBytes tableFault blockFault blockBytes share blocksFrom tablesFrom chainOf inBlocks storedAt L table
+unfolding be bytes put part must any first blocks.meets blocks.meetsBlock blocks.onDirectory blocks.blockFault blocks.chainFrom blocks.chain blocks.blocksOf rows slotPlaces slotsOf liveAt baseTag sizeAt contentAt has find extendedAt plainFault descriptionOf recordFault linkedAt linkedBytes tableFault blockFault blockBytes share blocksFrom tablesFrom chainOf inBlocks storedAt numbers L table
 worked-cases = refl

@@ -1,6 +1,7 @@
 -- The claims about reading elements: what a view and a choice between two images give, and what a copy gives and leaves. Assumes nothing.
 use Prim.Native.Nat.{ℕ, _≤_}
 use mathlib.Core.Path.{_≡_, refl, sym, ap, _∙_}
+use mathlib.Core.Logic.{_↔_}
 use mathlib.Core.List.{List, [], _∷_, _++_}
 use mathlib.Core.Bool.{true, false}
 use lib.ListN.{length, getD, take, drop, length-append, length-drop}
@@ -13,13 +14,13 @@ use Rattle.directory.specs.Slots.{sizeAt, contentAt}
 use Rattle.directory.specs.Opening.{openOf}
 use Rattle.directory.specs.Lookup.{find}
 use Rattle.directory.specs.Named.{Named}
-use Rattle.directory.proofs.Rules.{opened-stops}
+use Rattle.directory.proofs.Rules.{opened-goes, opened-stops}
 use Rattle.directory.proofs.Named.{found-named, named-once, named-found}
 use Rattle.storage.specs.Limits.{STORAGE}
 use Rattle.storage.specs.Elements.{extendedAt, startAt}
 use Rattle.storage.specs.View.{locatedAt, viewOf, bytesOf}
-use Rattle.storage.specs.Linked.{descriptionOf}
-use Rattle.storage.specs.Given.{blockRefs, given, TablesOf}
+use Rattle.storage.specs.Linked.{descriptionOf, recordFault}
+use Rattle.storage.specs.Given.{blockRefs, given, Complete}
 use Rattle.storage.specs.Copy.{inPlace, inBlocks, storedAt, copyAt, copyFound, copyOf, bytesFound, elementBytes, copyAfter}
 use Rattle.storage.specs.Choose.{chooseOf, chosenBytes}
 use Rattle.storage.specs.declared.view.Located.the-variants.{Plain, Refused}
@@ -27,7 +28,7 @@ use Rattle.storage.proofs.Elements.{fault-extended, fault-plain, plain-
 use Rattle.storage.proofs.Views
 use Rattle.storage.proofs.Choices
 use Rattle.storage.proofs.Copies
-use Rattle.storage.proofs.Given.{chain-given}
+use Rattle.storage.proofs.Given.{chain-given, chain-complete}
 
 -- ---- What is located
 
@@ -108,7 +109,7 @@ pub copy-linked : (s : List ℕ) (tag ref p room : ℕ) → Named s tag ref p �
     → let d = descriptionOf (contentAt s p) in
     (copyOf s tag ref room ≡ grant (d .length ∷ []))
     × (length (elementBytes s tag ref) ≡ d .length)
-    × ((tables : List ℕ) × TablesOf s d tables × (elementBytes s tag ref ≡ given s d 0 (d .length) (blockRefs s d tables)))
+    × ((tables : List ℕ) × Complete s d tables × (elementBytes s tag ref ≡ given s d 0 (d .length) (blockRefs s d tables)))
 unfolding inBlocks elementBytes
 copy-linked s tag ref p room named e granted =
     let g = Copies.granted-copy s tag ref room granted in
@@ -119,6 +120,22 @@ copy-linked s tag ref p room named e granted =
       g .1 .answers ∙ ap (λ x. grant (x .size ∷ [])) stored,
       g .1 .holds ∙ ap (λ x. x .size) stored,
       (c .0, c .1, ap (bytesFound s) found ∙ ap (λ x. x .bytes) (Copies.stored-blocks s p e) ∙ c .2),
+    )
+
+-- it is copied exactly if its record keeps the rules, the buffer is long enough, and there are tables whose blocks give all its bytes
+pub copy-linked-exactly : (s : List ℕ) (tag ref p room : ℕ) → openOf s .number ≡ 0 → Named s tag ref p → extendedAt s p ≡ true
+    → let d = descriptionOf (contentAt s p) in
+    (copyOf s tag ref room .number ≡ 0) ↔ ((recordFault (contentAt s p) ≡ 0) × (d .length ≤ room) × ((tables : List ℕ) × Complete s d tables))
+unfolding inBlocks
+copy-linked-exactly s tag ref p room opens named e =
+    let d = descriptionOf (contentAt s p) in
+    let x = inBlocks s (contentAt s p) in
+    let is : copyOf s tag ref room ≡ copyAt room p x =
+    Copies.copy-goes s tag ref [] opens room
+    ∙ ap (copyFound s room) (named-found s tag ref p opens named)
+    ∙ ap (copyAt room p) (Copies.stored-blocks s p e) in (
+      (λ h. let c = Copies.copy-passed room p x (ap (λ a. a .number) (sym is) ∙ h) in let g = chain-given s d (c .2) in (c .0, c .1, (g .0, g .1))),
+      (λ h. ap (λ a. a .number) (is ∙ Copies.copy-granted room p x (h .0) (h .1) (chain-complete s d (h .2 .0) (h .2 .1)))),
     )
 
 -- the bytes stand at the front of the buffer, and nothing past them changes
@@ -140,6 +157,16 @@ pub copy-refused : (s : List ℕ) (tag ref : ℕ) (out : List ℕ) → (copyOf s
 copy-refused s tag ref out z = Copies.laid-refused (copyOf s tag ref (length out)) (elementBytes s tag ref) out z
 
 -- ---- Choice
+
+-- both images are opened, the current one first
+pub choose-unopened : (s t : List ℕ) (tag ref : ℕ) → (openOf s .number ≡ 0 → ⊥) → chooseOf s t tag ref ≡ refuse 3 (openOf s .number) (openOf s .place)
+unfolding chooseOf
+choose-unopened s t tag ref closed = opened-stops 3 s _ closed
+
+pub choose-fallback-unopened : (s t : List ℕ) (tag ref : ℕ) → openOf s .number ≡ 0 → (openOf t .number ≡ 0 → ⊥)
+    → chooseOf s t tag ref ≡ refuse 3 (openOf t .number) (openOf t .place)
+unfolding chooseOf
+choose-fallback-unopened s t tag ref opens closed = opened-goes 3 s _ opens ∙ opened-stops 3 t _ closed
 
 module _ (s t : List ℕ) (tag ref : ℕ) (opens : openOf s .number ≡ 0) (other : openOf t .number ≡ 0) where
   -- where the current image has the element its part is given, and one that is extended does not fall through to the fallback

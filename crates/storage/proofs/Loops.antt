@@ -143,12 +143,12 @@ module _ (s : List ℕ) (d : Description) (out₀ tables : List ℕ) (count ref 
         ended 13 (ap (λ k. tablesFrom s d k (take count tables) ref index left) z ∙ tables-many s d (take count tables) ref index left missed)
 
     module _ (more : count < 256) where
-      fuel₂ : 256 - count ≡ suc (256 - (count + 1))
-      fuel₂ = omega arith
+      fuel-left : 256 - count ≡ suc (256 - (count + 1))
+      fuel-left = omega arith
 
       pub followed-fault : tableFault s d (take count tables) ref ≡ 13 → Followed (chainOf s d) out₀ out 13
       followed-fault h =
-          ended 13 (ap (λ k. tablesFrom s d k (take count tables) ref index left) fuel₂
+          ended 13 (ap (λ k. tablesFrom s d k (take count tables) ref index left) fuel-left
           ∙ tables-fault s d (take count tables) ref index left missed (256 - (count + 1)) 12 h)
 
       -- a table without fault: what its blocks come to, and what is left of the walk after it
@@ -160,7 +160,7 @@ module _ (s : List ℕ) (d : Description) (out₀ tables : List ℕ) (count ref 
         here : tablesFrom s d (256 - count) (take count tables) ref index left ≡ andThen (blocksFrom s d (linkedBytes s ref) (d .entries) 0 index left) onward
         unfolding onward
         here =
-            ap (λ k. tablesFrom s d k (take count tables) ref index left) fuel₂
+            ap (λ k. tablesFrom s d k (take count tables) ref index left) fuel-left
             ∙ tables-next s d (take count tables) ref index left missed (256 - (count + 1)) good
 
         pub followed-broken : (f ≡ 0 → ⊥) → Followed (chainOf s d) out₀ after f

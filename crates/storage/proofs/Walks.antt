@@ -135,7 +135,7 @@ tables-total s d (suc k) before ref index left =
     ]
 
 -- a walk without fault leaves nothing
-tables-finish : (s : List ℕ) (d : Description) (k : ℕ) (before : List ℕ) (ref index left : ℕ)
+pub tables-finish : (s : List ℕ) (d : Description) (k : ℕ) (before : List ℕ) (ref index left : ℕ)
     → tablesFrom s d k before ref index left .fault ≡ 0 → tablesFrom s d k before ref index left .left ≡ 0
 unfolding tablesFrom
 tables-finish s d zero before ref index left e = eqb-true left 0 (passed _ _ _ e .0)

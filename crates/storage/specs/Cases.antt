@@ -2,7 +2,7 @@
 use Prim.Native.Nat.{ℕ}
 use mathlib.Core.List.{List, [], _∷_}
 use Rattle.wire.specs.Numbers.{bytes, put}
-use Rattle.storage.specs.Copy.{storedAt}
+use Rattle.storage.specs.Copy.{Stored, storedAt}
 
 -- file L: the element 100/1 is extended, "abcdef" in three blocks, of which the first table names two and the second one
 unfoldable pub L : List ℕ
@@ -31,10 +31,13 @@ pub record Row : Type 0 where
   pub computed : List ℕ
   pub expected : List ℕ
 
--- the element of the slot at 10: the first rule that its record breaks, its length, the first fault of its chain, and the bytes before that
+-- the first rule that its record breaks, its length, the first fault of its chain, and the bytes before that
+unfoldable pub numbers : Stored → List ℕ
+numbers x = x .record-fault ∷ x .size ∷ x .chain-fault ∷ x .bytes
+
+-- the element of the slot at 10
 abbrev pub reading : List ℕ → List ℕ → Row
-reading s expected =
-    record { computed = storedAt s 10 .record-fault ∷ storedAt s 10 .size ∷ storedAt s 10 .chain-fault ∷ storedAt s 10 .bytes; expected = expected }
+reading s expected = record { computed = numbers (storedAt s 10); expected = expected }
 
 -- ---- Cases
 

@@ -28,9 +28,11 @@ pub record Stored : Type 0 where
   pub chain-fault : ℕ
   pub bytes : List ℕ
 
+-- in plain storage
 unfoldable pub inPlace : List ℕ → ℕ → Stored
 inPlace s p = record { record-fault = 0; size = sizeAt s p; chain-fault = 0; bytes = contentAt s p }
 
+-- in linked blocks, by the bytes of its record
 unfoldable pub inBlocks : List ℕ → List ℕ → Stored
 inBlocks s r =
     record {
@@ -49,6 +51,7 @@ copyAt room p x =
     judged 1 (x .record-fault) p
     (elim (leb (x .size) room) [ false ↦ refuse 1 SMALL 0 | true ↦ judged 1 (x .chain-fault) p (grant (x .size ∷ [])) ])
 
+-- what the call goes on to at what a lookup found
 abbrev pub copyFound : List ℕ → ℕ → Hit → Answer
 copyFound s room (hit p) = copyAt room p (storedAt s p)
 copyFound s room miss = refuse 1 ABSENT 0
@@ -68,6 +71,7 @@ elementBytes s tag ref = bytesFound s (find s tag ref)
 unfoldable pub laidOver : Answer → List ℕ → List ℕ → List ℕ
 laidOver answer bytes out = elim (answer .number) [ zero ↦ bytes ++ drop (length bytes) out | suc number ↦ out ]
 
+-- the lent buffer after the call
 abbrev pub copyAfter : List ℕ → ℕ → ℕ → List ℕ → List ℕ
 copyAfter s tag ref out = laidOver (copyOf s tag ref (length out)) (elementBytes s tag ref) out
 

@@ -1,12 +1,12 @@
 -- What it is for the bytes of an element in linked blocks to come from its tables and the blocks that they name, after document 01,
 -- "Reading elements". Assumes nothing.
-use Prim.Native.Nat.{ℕ, zero, suc, _+_, _*_, _-_, _≤_}
+use Prim.Native.Nat.{ℕ, zero, suc, _+_, _*_, _-_, _<_, _≤_}
 use mathlib.Core.Path.{_≡_}
 use mathlib.Core.List.{List, [], _∷_, _++_}
 use lib.ListN.{length}
 use Rattle.directory.specs.Rules.{In, Pairwise}
 use Rattle.storage.specs.Limits.{most-tables}
-use Rattle.storage.specs.Linked.{linkedBytes, nextTable, blockRef, blockBytes, share}
+use Rattle.storage.specs.Linked.{linkedBytes, nextTable, blockRef, blockFault, blockBytes, share}
 use Rattle.storage.specs.declared.linked.Description.{Description}
 
 -- the references of the blocks that k entries of a table name, from an entry on
@@ -24,14 +24,30 @@ unfoldable pub given : List ℕ → Description → ℕ → ℕ → List ℕ →
 given s d index left [] = []
 given s d index left (b ∷ bs) = blockBytes s b (share d index left) ++ given s d (index + 1) (left - share d index left) bs
 
+-- how many bytes are left after blocks
+unfoldable pub leftAfter : Description → ℕ → ℕ → List ℕ → ℕ
+leftAfter d index left [] = left
+leftAfter d index left (b ∷ bs) = leftAfter d (index + 1) (left - share d index left) bs
+
+-- every block of which bytes are taken breaks no rule
+abbrev pub Sound : List ℕ → Description → ℕ → ℕ → List ℕ → Type 0
+Sound s d index left [] = Unit {0}
+Sound s d index left (b ∷ bs) = (0 < left → blockFault s b (share d index left) ≡ 0) × Sound s d (index + 1) (left - share d index left) bs
+
 -- the first of the tables has a reference, and each names the next
 abbrev pub Chained : List ℕ → ℕ → List ℕ → Type 0
 Chained s ref [] = Unit {0}
 Chained s ref (t ∷ ts) = (t ≡ ref) × Chained s (nextTable (linkedBytes s t)) ts
 
--- the tables that a record leads to
+-- tables that a record leads to
 pub record TablesOf (s : List ℕ) (d : Description) (tables : List ℕ) : Type 0 where
   pub chained : Chained s (d .table) tables
   pub few : length tables ≤ most-tables
   pub distinct : Pairwise (λ t u. t ≡ u → ⊥) tables
   pub whole : (t : ℕ) → In t tables → 2 + 2 * d .entries ≤ length (linkedBytes s t)
+
+-- tables that a record leads to, whose blocks give all its bytes
+pub record Complete (s : List ℕ) (d : Description) (tables : List ℕ) : Type 0 where
+  pub tables-of : TablesOf s d tables
+  pub sound : Sound s d 0 (d .length) (blockRefs s d tables)
+  pub all : leftAfter d 0 (d .length) (blockRefs s d tables) ≡ 0

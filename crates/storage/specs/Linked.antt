@@ -59,14 +59,14 @@ nextTable t = be 2 t 0
 abbrev pub blockRef : List ℕ → ℕ → ℕ
 blockRef t entry = be 2 t (2 + 2 * entry)
 
--- the number of the first rule that a table breaks, after the tables before it; 0 where it breaks none
+-- the number of the first rule that a table breaks, after the tables before it; 0 where it breaks none: it comes twice, it is not there, it is not whole
 unfoldable pub tableFault : List ℕ → Description → List ℕ → ℕ → ℕ
 tableFault s d before ref =
     must (not (any (eqb ref) before)) CHAIN
     (must (isThere (linkedAt s ref)) CHAIN
     (must (leb (2 + 2 * d .entries) (length (linkedBytes s ref))) CHAIN 0))
 
--- the number of the first rule that a block breaks of which so many bytes are taken; 0 where it breaks none
+-- the number of the first rule that a block breaks of which so many bytes are taken; 0 where it breaks none: it is not there, it is too short
 unfoldable pub blockFault : List ℕ → ℕ → ℕ → ℕ
 blockFault s ref count =
     must (isThere (linkedAt s ref)) CHAIN
@@ -115,7 +115,7 @@ blocksFrom s d t (suc k) entry index left =
           ]
     ]
 
--- the tables from a reference on, after the tables before, until no bytes are left; k tables may still be walked
+-- the tables from a reference on, after the tables before, until no bytes are left; k tables may still be walked, and one that is needed after them is too many
 unfoldable pub tablesFrom : List ℕ → Description → ℕ → List ℕ → ℕ → ℕ → ℕ → Walk
 tablesFrom s d zero before ref index left = stop (must (eqb left 0) CHAIN 0) left
 tablesFrom s d (suc k) before ref index left =

@@ -14,7 +14,7 @@ use Rattle.storage.specs.declared.linked.Linked.{Linked}
 use Rattle.storage.specs.declared.linked.Linked.the-variants.{Part, Nothing}
 use Rattle.storage.specs.declared.linked.Taken.{Taken}
 
--- the image opens, and its chain has so many blocks
+-- the image opens, and its directory has so many blocks
 pub record Opens (s : List ℕ) (blocks : ℕ) : Type 0 where
   pub sound : openOf s .number ≡ 0
   pub slots : slotsAfter s blocks 4 ≡ slotsOf s
@@ -33,7 +33,7 @@ abbrev pub standsAt : List ℕ → Hit → Linked
 standsAt s (hit p) = Part (startAt s p) (sizeAt s p)
 standsAt s miss = Nothing
 
--- the place in the chain: the index of a block, and how many bytes are left
+-- where a walk stands: at the block of an index, with so many bytes left
 pub record Reached (d : Description) (index left : ℕ) : Type 0 where
   pub low : index ≤ 256 * 4294967296
   pub less : left ≤ d .length

@@ -12,10 +12,9 @@ use super::view::Located;
 use directory::Refusal;
 use directory::refusals::SMALL;
 ghost use mathlib.Core.Path.{_≡_};
-ghost use Prim.Native.Nat.{_+_, _*_, _-_, _<_, _≤_, min};
+ghost use Prim.Native.Nat.{_-_, _≤_, min};
 ghost use lib.Dec.{eqb};
 ghost use lib.ListN.{length, take};
-ghost use Rattle.wire.specs.Numbers.{put};
 ghost use Rattle.directory.specs.Search.{any};
 ghost use Rattle.directory.specs.Slots.{slotsOf, contentAt};
 ghost use Rattle.directory.specs.Rules.{In, Live};
@@ -175,6 +174,7 @@ fn follow(image: &[u8], blocks: usize, d: Description, out: &mut [u8]) -> usize
     requires { ⌜ Opens (now image) blocks × Small d ⌝ }
     ensures { λ r. ⌜ Followed (chainOf (now (image .entry)) d) (now (out .entry)) (now (out .exit)) r ⌝ }
 {
+    // The references of the tables walked so far.
     let mut tables = [0u16; 256];
     let mut count = 0;
     let mut reference = d.table;

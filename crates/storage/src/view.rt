@@ -11,7 +11,7 @@ use directory::refusals::ABSENT;
 ghost use mathlib.Core.Path.{_≡_};
 ghost use Prim.Native.Nat.{_≤_};
 ghost use Rattle.directory.specs.Search.{first};
-ghost use Rattle.directory.specs.Lookup.{has, find};
+ghost use Rattle.directory.specs.Lookup.{has};
 ghost use Rattle.directory.specs.Cursor.{slotsAfter, most-place};
 ghost use Rattle.directory.specs.Slots.{sizeAt};
 ghost use Rattle.storage.specs.Elements.{extendedAt, startAt};
