@@ -31,10 +31,14 @@ enum hdf4_refusal {
     HDF4_STORAGE = 12,      /* the element is extended, and not of a kind that the call reads */
     HDF4_CHAIN = 13,        /* the linked blocks of the element are broken */
     HDF4_SMALL = 14,        /* the lent output is too short */
+    HDF4_RECORD = 15,       /* a record breaks its layout */
+    HDF4_TYPE = 16,         /* a number type that is not known */
+    HDF4_NO_VALUE = 17,     /* a record, field or component index that the Vdata does not have */
     HDF4_PRESENT = 18,      /* an element with that tag and reference is there already */
     HDF4_NO_ROOM = 19,      /* the buffer is shorter than the new image */
     HDF4_NO_EDIT = 20,      /* the image carries no trailer, so there is nothing to undo */
-    HDF4_BAD_TRAILER = 21   /* the trailer breaks a rule; the place is the trailer's */
+    HDF4_BAD_TRAILER = 21,  /* the trailer breaks a rule; the place is the trailer's */
+    HDF4_DEEP = 22          /* groups are nested past 16; the place is the slot of the 16th */
 };
 
 typedef struct {
@@ -72,6 +76,70 @@ typedef struct {
     uint64_t number, place;
     uint64_t length; /* of the new image */
 } hdf4_edit_answer;
+
+typedef struct {
+    uint64_t number, place;
+    uint64_t version, type, width, number_class;
+} hdf4_number_type_answer;
+
+typedef struct {
+    uint64_t number, place;
+    uint64_t x, y;
+    uint64_t type_tag, type_ref;
+    uint64_t elements;
+    uint64_t interlace; /* 0 to 2 */
+    uint64_t compression_tag, compression_ref;
+} hdf4_dimension_answer;
+
+typedef struct {
+    uint64_t number, place;
+    uint64_t rank; /* how many sizes; there is one pair more */
+} hdf4_array_answer;
+
+typedef struct {
+    uint64_t number, place;
+    uint64_t members;
+    uint64_t name_offset, name_length;   /* in the image */
+    uint64_t class_offset, class_length; /* in the image */
+    uint64_t extension_tag, extension_ref;
+    uint64_t version; /* 3 */
+    uint64_t more;
+} hdf4_group_answer;
+
+typedef struct {
+    uint64_t number, place;
+    uint64_t interlace; /* 0 where the values stand by record, 1 where they stand by field */
+    uint64_t records, record_size;
+    uint64_t fields;
+    uint64_t name_offset, name_length;   /* in the image */
+    uint64_t class_offset, class_length; /* in the image */
+    uint64_t extension_tag, extension_ref;
+    uint64_t version; /* 3 */
+    uint64_t more;
+} hdf4_vdata_answer;
+
+enum hdf4_kind {
+    HDF4_SIGNED = 1,
+    HDF4_UNSIGNED = 2,
+    HDF4_FLOAT32 = 3,
+    HDF4_FLOAT64 = 4
+};
+
+typedef struct {
+    uint64_t number, place;
+    uint64_t kind; /* one of hdf4_kind */
+    uint64_t bits; /* of a signed number its two's complement in 64 bits, of a float its own bits */
+} hdf4_value_answer;
+
+typedef struct {
+    uint64_t number, place;
+    uint64_t pairs;
+} hdf4_group_list_answer;
+
+typedef struct {
+    uint64_t number, place;
+    uint64_t length; /* of the packed record */
+} hdf4_pack_answer;
 
 /* Opens an image: how many blocks, slots and live slots its directory has. */
 hdf4_open_answer hdf4_open(const uint8_t *image, size_t n);
@@ -113,6 +181,60 @@ hdf4_edit_answer hdf4_remove(uint8_t *buffer, size_t capacity, uint64_t n, uint1
 
 /* Undoes the last edit that is not undone yet: the image is as before it, byte for byte. */
 hdf4_edit_answer hdf4_undo(uint8_t *buffer, size_t capacity, uint64_t n);
+
+/* Records.
+ *
+ * A record is an element in plain storage: an extended one is refused at its slot, as is one that breaks its layout. Lists are written to
+ * the fronts of lent tables, a pair as its tag and its reference, one after the other; what is behind them stays as it was. A table is as
+ * long as the `room` or count behind it says, in entries of its type.
+ *
+ * Packing writes a record's bytes to the front of a lent output. What was read gives back the record's own bytes, up to its last field.
+ */
+
+/* Reads a number type, tag 106: four bytes of any values. */
+hdf4_number_type_answer hdf4_read_number_type(const uint8_t *image, size_t n, uint16_t ref);
+
+hdf4_pack_answer hdf4_pack_number_type(uint8_t version, uint8_t type, uint8_t width, uint8_t number_class, uint8_t *out, size_t room);
+
+/* Reads a dimension, of tag 300, 307 or 308. The tag may be any, and is looked up by its base tag. */
+hdf4_dimension_answer hdf4_read_dimension(const uint8_t *image, size_t n, uint16_t tag, uint16_t ref);
+
+hdf4_pack_answer hdf4_pack_dimension(uint32_t x, uint32_t y, uint16_t type_tag, uint16_t type_ref, uint16_t elements, uint16_t interlace,
+                                     uint16_t compression_tag, uint16_t compression_ref, uint8_t *out, size_t room);
+
+/* Reads an array, tag 701: its sizes, and one pair more, the data's type first. */
+hdf4_array_answer hdf4_read_array(const uint8_t *image, size_t n, uint16_t ref, uint32_t *sizes, size_t sizes_room, uint16_t *pairs,
+                                  size_t pairs_room);
+
+hdf4_pack_answer hdf4_pack_array(const uint32_t *sizes, size_t sizes_count, const uint16_t *pairs, size_t pairs_count, uint8_t *out,
+                                 size_t room);
+
+/* Reads a Vgroup, tag 1965: tag and reference of each member. */
+hdf4_group_answer hdf4_read_group(const uint8_t *image, size_t n, uint16_t ref, uint16_t *members, size_t room);
+
+hdf4_pack_answer hdf4_pack_group(const uint16_t *members, size_t members_count, const uint8_t *name, size_t name_length,
+                                 const uint8_t *class_name, size_t class_length, uint16_t extension_tag, uint16_t extension_ref,
+                                 uint16_t version, uint16_t more, uint8_t *out, size_t room);
+
+/* Reads the head of a Vdata, tag 1962: type, size, offset and order of each field, and place in the image and length of each field's
+ * name. */
+hdf4_vdata_answer hdf4_read_vdata(const uint8_t *image, size_t n, uint16_t ref, uint16_t *fields, size_t fields_room, uint32_t *names,
+                                  size_t names_room);
+
+/* Packs the head of a Vdata. The fields are given by four numbers each, as they are read; by the length of each field's name; and by these
+ * names one after the other. */
+hdf4_pack_answer hdf4_pack_vdata(uint16_t interlace, uint32_t records, uint16_t record_size, const uint16_t *fields, size_t fields_count,
+                                 const uint16_t *name_lengths, size_t name_lengths_count, const uint8_t *names, size_t names_length,
+                                 const uint8_t *name, size_t name_length, const uint8_t *class_name, size_t class_length,
+                                 uint16_t extension_tag, uint16_t extension_ref, uint16_t version, uint16_t more, uint8_t *out,
+                                 size_t room);
+
+/* Reads one value of a Vdata, its head of tag 1962 and its data of tag 1963. All indices count from 0. */
+hdf4_value_answer hdf4_read_value(const uint8_t *image, size_t n, uint16_t ref, uint64_t record, uint64_t field, uint64_t component);
+
+/* Lists the members of a Vgroup in order, each member of tag 1965 followed by its own members: tag and reference of each. There are at most
+ * 4,096 pairs, and at most 16 groups nested, the named one included. */
+hdf4_group_list_answer hdf4_list_group(const uint8_t *image, size_t n, uint16_t ref, uint16_t *list, size_t room);
 
 #ifdef __cplusplus
 }

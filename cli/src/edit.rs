@@ -56,7 +56,7 @@ pub fn pair(tag: &OsStr, reference: &OsStr) -> Result<Pair, String> {
 }
 
 /// A number of 16 bits, decimal or with 0x before it.
-fn number(word: &OsStr) -> Result<u16, String> {
+pub fn number(word: &OsStr) -> Result<u16, String> {
     let text = word.to_str().unwrap_or("");
     let (digits, radix) = match text.strip_prefix("0x") {
         Some(digits) => (digits, 16),

@@ -3,6 +3,7 @@
 mod edit;
 mod element;
 mod store;
+mod vset;
 
 use std::env;
 use std::ffi::{OsStr, OsString};
@@ -14,6 +15,8 @@ use std::process::ExitCode;
 const HELP: &str = "\
 usage: hdf4 list FILE
        hdf4 read FILE TAG REF [OUT]
+       hdf4 groups FILE [REF]
+       hdf4 values FILE REF
        hdf4 add FILE TAG REF DATAFILE
        hdf4 replace FILE TAG REF DATAFILE
        hdf4 remove FILE TAG REF
@@ -21,12 +24,18 @@ usage: hdf4 list FILE
 
   list       the elements of a file: tag, reference, offset and length of each, in the order of its directory
   read       the bytes of an element, plain or of linked blocks, to the file OUT or to standard output
+  groups     the Vgroups of a file, or the one with that reference: class and name, and below them tag and reference of each
+             member, those of a Vgroup within it further to the right
+  values     the values of a Vdata: a line of field names, then a line for each record; tabs between fields, spaces between the
+             numbers of a field
   add        adds an element with the bytes of DATAFILE
   replace    gives an element the bytes of DATAFILE
   remove     removes an element
   undo       undoes the last edit that is not undone yet: the file is as before it, byte for byte
 
 TAG and REF are numbers from 0 to 65535, decimal or with 0x before them. DATAFILE - is standard input, OUT - standard output.
+A field of characters (types 3 and 4) is printed as text in quotes, a float in the fewest digits that give it back. In text and
+in names, bytes that are not printable ASCII are escaped, as in \\n or \\x00, and so are quotes and backslashes.
 A crash in the middle of a command leaves the old file or the new one.
 ";
 
@@ -63,6 +72,9 @@ fn tell(command: &str, words: &[&OsStr]) -> Result<String, String> {
     match (command, words) {
         ("read", [path, tag, reference, out]) => element::read_to(Path::new(path), edit::pair(tag, reference)?, Path::new(out)),
         ("list", [path]) => list(Path::new(path)),
+        ("groups", [path]) => vset::groups(Path::new(path)),
+        ("groups", [path, reference]) => vset::group(Path::new(path), edit::number(reference)?),
+        ("values", [path, reference]) => vset::values(Path::new(path), edit::number(reference)?),
         ("add", [path, tag, reference, data]) => edit::add(Path::new(path), edit::pair(tag, reference)?, data),
         ("replace", [path, tag, reference, data]) => edit::replace(Path::new(path), edit::pair(tag, reference)?, data),
         ("remove", [path, tag, reference]) => edit::remove(Path::new(path), edit::pair(tag, reference)?),

@@ -1,76 +1,15 @@
 //! Runs the built program on copies of real files: edits, undo, refusals, and how a file is written back.
 
+mod common;
+
+use common::{granted, program, refused, text, Folder, FILES};
 use std::fs;
 use std::io::Write;
 use std::os::unix::fs::{symlink, MetadataExt, PermissionsExt};
-use std::path::{Path, PathBuf};
-use std::process::{self, Command, Output, Stdio};
+use std::path::Path;
+use std::process::Stdio;
 use std::thread;
 use std::time::Duration;
-
-const FILES: &str = concat!(env!("CARGO_MANIFEST_DIR"), "/../harness/files");
-
-/// A folder of one test, removed at its end.
-struct Folder(PathBuf);
-
-impl Folder {
-    fn new(test: &str) -> Folder {
-        let path = std::env::temp_dir().join(format!("hdf4-cli-{}-{test}", process::id()));
-        fs::create_dir(&path).unwrap();
-        Folder(path)
-    }
-
-    fn path(&self, name: &str) -> PathBuf {
-        self.0.join(name)
-    }
-
-    /// A copy of one of the real files.
-    fn copy_of(&self, name: &str) -> PathBuf {
-        let path = self.path(name);
-        fs::copy(Path::new(FILES).join(name), &path).unwrap();
-        path
-    }
-
-    fn data(&self, bytes: &[u8]) -> PathBuf {
-        let path = self.path("data");
-        fs::write(&path, bytes).unwrap();
-        path
-    }
-
-    fn names(&self) -> Vec<String> {
-        let entries = fs::read_dir(&self.0).unwrap();
-        entries.map(|entry| entry.unwrap().file_name().into_string().unwrap()).collect()
-    }
-}
-
-impl Drop for Folder {
-    fn drop(&mut self) {
-        let _ = fs::remove_dir_all(&self.0);
-    }
-}
-
-fn program() -> Command {
-    Command::new(env!("CARGO_BIN_EXE_hdf4"))
-}
-
-fn text(path: &Path) -> &str {
-    path.to_str().unwrap()
-}
-
-/// A command that must succeed; answers what it printed.
-fn granted(words: &[&str]) -> String {
-    let Output { status, stdout, stderr } = program().args(words).output().unwrap();
-    assert!(status.success(), "{words:?}: {}", String::from_utf8_lossy(&stderr));
-    String::from_utf8(stdout).unwrap()
-}
-
-/// A command that must end with 1 and print nothing; answers its message.
-fn refused(words: &[&str]) -> String {
-    let Output { status, stdout, stderr } = program().args(words).output().unwrap();
-    assert_eq!(status.code(), Some(1), "{words:?}");
-    assert!(stdout.is_empty(), "{words:?}");
-    String::from_utf8(stderr).unwrap()
-}
 
 /// A command that must be refused and leave the file as it is, not even written again.
 fn refused_on(file: &Path, words: &[&str], message: &str) {
@@ -84,7 +23,7 @@ fn refused_on(file: &Path, words: &[&str], message: &str) {
 #[test]
 fn an_added_element_is_listed_and_undone() {
     let folder = Folder::new("add");
-    let (file, data) = (folder.copy_of("elements.hdf"), folder.data(b"closed"));
+    let (file, data) = (folder.copy_of("elements.hdf"), folder.holding("data", b"closed"));
     let before = fs::read(&file).unwrap();
     let (file_word, data_word) = (text(&file), text(&data));
 
@@ -103,7 +42,7 @@ fn an_added_element_is_listed_and_undone() {
 #[test]
 fn edits_are_undone_one_after_the_other() {
     let folder = Folder::new("undo");
-    let (file, data) = (folder.copy_of("empty.hdf"), folder.data(b"closed"));
+    let (file, data) = (folder.copy_of("empty.hdf"), folder.holding("data", b"closed"));
     let (file_word, data_word) = (text(&file), text(&data));
     let edits: [&[&str]; 4] = [
         &["add", file_word, "0x9c40", "5", data_word],
@@ -125,7 +64,7 @@ fn edits_are_undone_one_after_the_other() {
 #[test]
 fn every_file_that_opens_is_edited_and_undone() {
     let folder = Folder::new("all");
-    let data = folder.data(b"closed");
+    let data = folder.holding("data", b"closed");
     let names = fs::read_dir(FILES).unwrap().map(|entry| entry.unwrap().file_name().into_string().unwrap());
     for name in names.filter(|name| name.ends_with(".hdf")) {
         let file = folder.copy_of(&name);
@@ -159,7 +98,7 @@ fn data_come_from_standard_input() {
 #[test]
 fn refusals_name_their_rule_and_leave_the_file() {
     let folder = Folder::new("refused");
-    let (file, data) = (folder.copy_of("empty.hdf"), folder.data(b"closed"));
+    let (file, data) = (folder.copy_of("empty.hdf"), folder.holding("data", b"closed"));
     let (file_word, data_word) = (text(&file), text(&data));
     refused_on(&file, &["add", file_word, "107", "1", data_word], "BAD_TAG: a tag is not allowed (number 7, place 0)");
     refused_on(&file, &["remove", file_word, "40000", "5"], "(number 11, place 0)");
@@ -210,15 +149,13 @@ fn permissions_and_links_are_kept_and_nothing_is_left_behind() {
     }
     assert!(fs::symlink_metadata(&link).unwrap().is_symlink());
     assert!(granted(&["list", text(&file)]).contains("tag 40000"));
-    let mut names = folder.names();
-    names.sort();
-    assert_eq!(names, ["empty.hdf", "link.hdf"]);
+    assert_eq!(folder.names(), ["empty.hdf", "link.hdf"]);
 }
 
 #[test]
 fn a_killed_program_leaves_the_old_file_or_the_new_one() {
     let folder = Folder::new("killed");
-    let (file, data) = (folder.copy_of("empty.hdf"), folder.data(&vec![0x2a; 1 << 20]));
+    let (file, data) = (folder.copy_of("empty.hdf"), folder.holding("data", &vec![0x2a; 1 << 20]));
     let add = ["add", text(&file), "40000", "5", text(&data)];
     let old = fs::read(&file).unwrap();
     granted(&add);

@@ -1,36 +1,13 @@
 //! Runs the built program on real files: the bytes of elements, to standard output and to files.
 
+mod common;
+
+use common::{file, granted, granted_bytes, refused, text, Folder};
 use std::fs;
-use std::path::{Path, PathBuf};
-use std::process::{self, Command, Output};
-
-const FILES: &str = concat!(env!("CARGO_MANIFEST_DIR"), "/../harness/files");
-
-fn file(name: &str) -> PathBuf {
-    Path::new(FILES).join(name)
-}
-
-fn run(words: &[&str]) -> Output {
-    Command::new(env!("CARGO_BIN_EXE_hdf4")).args(words).output().unwrap()
-}
-
-fn granted(words: &[&str]) -> Vec<u8> {
-    let Output { status, stdout, stderr } = run(words);
-    assert!(status.success(), "{words:?}: {}", String::from_utf8_lossy(&stderr));
-    stdout
-}
-
-/// A command that must end with 1 and print nothing; answers its message.
-fn refused(words: &[&str]) -> String {
-    let Output { status, stdout, stderr } = run(words);
-    assert_eq!(status.code(), Some(1), "{words:?}");
-    assert!(stdout.is_empty(), "{words:?}");
-    String::from_utf8(stderr).unwrap()
-}
 
 /// Tag, reference, offset and length of each plain element, as the program lists them.
 fn plain_elements(path: &str) -> Vec<[usize; 4]> {
-    let list = String::from_utf8(granted(&["list", path])).unwrap();
+    let list = granted(&["list", path]);
     let numbers = |line: &str| line.split(' ').skip(1).step_by(2).map(|word| word.parse().unwrap()).collect::<Vec<_>>();
     let plain = list.lines().skip(1).filter(|line| !line.ends_with("extended"));
     plain.map(|line| numbers(line).try_into().unwrap()).collect()
@@ -39,13 +16,13 @@ fn plain_elements(path: &str) -> Vec<[usize; 4]> {
 #[test]
 fn plain_elements_are_the_bytes_of_the_file() {
     let path = file("elements.hdf");
-    let path = path.to_str().unwrap();
-    let image = fs::read(path).unwrap();
-    let elements = plain_elements(path);
+    let image = fs::read(&path).unwrap();
+    let elements = plain_elements(&path);
     assert!(elements.len() > 5);
     for [tag, reference, offset, length] in elements {
         let expected = if length == 0 || tag == 107 { &[] } else { &image[offset..offset + length] };
-        assert_eq!(granted(&["read", path, &tag.to_string(), &reference.to_string()]), expected, "{tag}/{reference}");
+        let words = ["read", &path, &tag.to_string(), &reference.to_string()];
+        assert_eq!(granted_bytes(&words), expected, "{tag}/{reference}");
     }
 }
 
@@ -62,57 +39,36 @@ fn linked_file() -> Vec<u8> {
     image
 }
 
-/// A folder of one test, removed at its end.
-struct Folder(PathBuf);
-
-impl Folder {
-    fn new(test: &str) -> Folder {
-        let path = std::env::temp_dir().join(format!("hdf4-cli-read-{}-{test}", process::id()));
-        fs::create_dir(&path).unwrap();
-        Folder(path)
-    }
-
-    /// The path of a file in the folder, as a word.
-    fn word(&self, name: &str) -> String {
-        self.0.join(name).to_str().unwrap().to_string()
-    }
-
-    fn holding(&self, name: &str, bytes: &[u8]) -> String {
-        fs::write(self.0.join(name), bytes).unwrap();
-        self.word(name)
-    }
-}
-
-impl Drop for Folder {
-    fn drop(&mut self) {
-        let _ = fs::remove_dir_all(&self.0);
-    }
+/// That file in a folder, its path as a word.
+fn linked_in(folder: &Folder) -> String {
+    text(&folder.holding("linked.hdf", &linked_file())).to_string()
 }
 
 #[test]
 fn a_linked_element_is_read_whole() {
     let folder = Folder::new("linked");
-    let path = folder.holding("linked.hdf", &linked_file());
+    let path = linked_in(&folder);
     let expected: Vec<u8> = (0..200).chain(0..200).collect();
-    assert_eq!(granted(&["read", &path, "100", "1"]), expected);
-    assert_eq!(granted(&["read", &path, "0x64", "1", "-"]), expected);
+    assert_eq!(granted_bytes(&["read", &path, "100", "1"]), expected);
+    assert_eq!(granted_bytes(&["read", &path, "0x64", "1", "-"]), expected);
 
     let mut broken = linked_file();
     broken[73] = 3;
     let path = folder.holding("broken.hdf", &broken);
-    assert!(refused(&["read", &path, "100", "1"]).contains("CHAIN: the linked blocks of the element are broken (number 13, place 10)"));
+    let message = refused(&["read", text(&path), "100", "1"]);
+    assert!(message.contains("CHAIN: the linked blocks of the element are broken (number 13, place 10)"), "{message}");
     broken[49] = 3;
     let path = folder.holding("other.hdf", &broken);
-    assert!(refused(&["read", &path, "100", "1"]).contains("(number 12, place 10)"));
+    assert!(refused(&["read", text(&path), "100", "1"]).contains("(number 12, place 10)"));
 }
 
 #[test]
 fn an_element_goes_to_a_file_new_or_old() {
     let folder = Folder::new("out");
-    let path = folder.holding("linked.hdf", &linked_file());
+    let path = linked_in(&folder);
     let out = folder.word("out");
     for _ in 0..2 {
-        assert_eq!(granted(&["read", &path, "20", "1", &out]), format!("{out}: 6 bytes\n").into_bytes());
+        assert_eq!(granted(&["read", &path, "20", "1", &out]), format!("{out}: 6 bytes\n"));
         assert_eq!(fs::read(&out).unwrap(), b"\x00\x00\x00\x02\x00\x02");
         fs::write(&out, b"something else").unwrap();
     }
@@ -120,15 +76,15 @@ fn an_element_goes_to_a_file_new_or_old() {
     assert_eq!(fs::read(&out).unwrap(), b"something else");
     let absent = folder.word("absent/out");
     assert!(refused(&["read", &path, "20", "1", &absent]).contains(&absent));
-    assert_eq!(fs::read_dir(&folder.0).unwrap().count(), 2);
+    assert_eq!(folder.names(), ["linked.hdf", "out"]);
 }
 
 #[test]
 fn refusals_name_their_rule() {
     let folder = Folder::new("refused");
-    let path = folder.holding("linked.hdf", &linked_file());
+    let path = linked_in(&folder);
     assert!(refused(&["read", &path, "20", "9"]).contains("ABSENT"));
     assert!(refused(&["read", &path, "20", "x"]).contains("not a number from 0 to 65535"));
     assert!(refused(&["read", &path, "20"]).contains("usage:"));
-    assert!(refused(&["read", file("set_aside.hdf").to_str().unwrap(), "20", "1"]).contains("OUTSIDE"));
+    assert!(refused(&["read", &file("set_aside.hdf"), "20", "1"]).contains("OUTSIDE"));
 }

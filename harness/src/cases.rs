@@ -2,6 +2,7 @@
 //! there.
 
 pub mod edits;
+pub mod records;
 
 use crate::compare::directory::expected_open;
 use crate::ffi::{self, Opened};

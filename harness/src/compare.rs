@@ -2,7 +2,10 @@
 
 pub mod directory;
 pub mod edits;
+pub mod packing;
+pub mod records;
 pub mod storage;
+pub mod vset;
 
 use crate::ffi::Answer;
 use crate::lent::{surround, Lent};
@@ -50,13 +53,33 @@ pub fn compare(image: &[u8], pairs: Pairs, random: &mut Random, tally: &mut Tall
 pub fn compare_huge(image: &[u8], random: &mut Random, tally: &mut Tally) -> Outcome {
     let lent = Lent::watch_ends(image, 0..image.len());
     let directory = reader::open(image);
-    compare_lent(Trial { lent, directory, random, tally }, Pairs::Some)
+    let mut trial = Trial { lent, directory, random, tally };
+    records::compare_each(&mut trial)?;
+    compare_lent(trial, Pairs::Some)
 }
 
 fn compare_lent(mut trial: Trial, pairs: Pairs) -> Outcome {
     trial.tally.files += 1;
     directory::compare(&mut trial, pairs)?;
-    storage::compare(&mut trial, pairs)
+    storage::compare(&mut trial, pairs)?;
+    records::compare(&mut trial, pairs)
+}
+
+/// Compares the calls on records alone, on each record of an image.
+pub fn compare_records(image: &[u8], random: &mut Random, tally: &mut Tally) -> Outcome {
+    let (memory, range) = surround(image, random.below(16));
+    let lent = Lent::watch_all(&memory, range);
+    let directory = reader::open(image);
+    tally.files += 1;
+    records::compare_all(&mut Trial { lent, directory, random, tally }, vset::FEW_VALUES)
+}
+
+/// The same with an image too large to copy.
+pub fn compare_huge_records(image: &[u8], random: &mut Random, tally: &mut Tally) -> Outcome {
+    let lent = Lent::watch_ends(image, 0..image.len());
+    let directory = reader::open(image);
+    tally.files += 1;
+    records::compare_all(&mut Trial { lent, directory, random, tally }, vset::FEW_VALUES)
 }
 
 impl Trial<'_> {

@@ -33,6 +33,8 @@ macro_rules! answer {
     };
 }
 
+pub mod records;
+
 answer! {
     /// The answer of `hdf4_open`: how many blocks, slots and live slots there are.
     Opened { blocks, slots, live }

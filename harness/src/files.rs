@@ -46,6 +46,11 @@ pub fn show(path: &Path, random: &mut Random, tally: &mut Tally) -> Result<(), S
     Ok(())
 }
 
+/// The bytes of a file of the folder.
+pub fn image(name: &str) -> Result<Vec<u8>, String> {
+    read(&Path::new(FOLDER).join(name))
+}
+
 /// Compares all calls on one file, each pair in it looked up. Answers what opening it answers.
 fn compare_one(path: &Path, random: &mut Random, tally: &mut Tally) -> Result<Opened, String> {
     let image = read(path)?;

@@ -6,6 +6,8 @@ mod draft;
 mod limits;
 pub mod linked;
 mod noise;
+mod parts;
+pub mod records;
 
 use crate::random::Random;
 use draft::Size;

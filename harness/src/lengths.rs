@@ -3,6 +3,7 @@
 
 mod edits;
 mod elements;
+mod records;
 
 use crate::compare::storage::compare_huge_two;
 use crate::compare::{compare_huge, Difference};
@@ -22,6 +23,7 @@ pub fn compare_lengths(random: &mut Random, tally: &mut Tally) -> Result<Option<
     let before = page_faults();
     too_long(&memory, random, tally).map_err(|difference| difference.to_string())?;
     greatest(&mut memory, random, tally).map_err(|difference| difference.to_string())?;
+    records::compare_long_data(&mut memory, random, tally).map_err(|difference| difference.to_string())?;
     elements::compare_long_copies(&mut memory, tally)?;
     edits::compare_long_files(&mut memory, tally)?;
     drop(memory);

@@ -1,5 +1,6 @@
 //! Memory lent to the library, watched for bytes that change where none may.
 
+use std::fmt::Debug;
 use std::hint::black_box;
 use std::ops::Range;
 
@@ -12,6 +13,12 @@ pub struct Lent<'a> {
     memory: &'a [u8],
     image: Range<usize>,
     watched: Vec<(usize, Vec<u8>)>,
+}
+
+/// A table lent for a call to write to, filled with other numbers, with a few numbers before and after it.
+pub struct Table<T> {
+    memory: Vec<T>,
+    room: Range<usize>,
 }
 
 /// A copy of an image with a few bytes before and after it, and where the image lies in it.
@@ -47,4 +54,29 @@ impl<'a> Lent<'a> {
         let memory = black_box(self.memory);
         self.watched.iter().all(|(start, bytes)| memory[*start..start + bytes.len()] == bytes[..])
     }
+}
+
+impl<T: Copy + Debug + PartialEq + From<u8>> Table<T> {
+    pub fn new(room: usize) -> Table<T> {
+        Table { memory: filling(EDGE + room + EDGE), room: EDGE..EDGE + room }
+    }
+
+    pub fn lend(&mut self) -> &mut [T] {
+        &mut self.memory[self.room.clone()]
+    }
+
+    /// The first place where the table is not what it was with `written` at its front, in words.
+    pub fn difference(&self, written: &[T]) -> Option<String> {
+        let mut expected: Vec<T> = filling(self.memory.len());
+        expected[EDGE..EDGE + written.len()].copy_from_slice(written);
+        let memory = black_box(&self.memory);
+        let place = memory.iter().zip(&expected).position(|(one, other)| one != other)?;
+        let (found, wanted) = (memory[place], expected[place]);
+        Some(format!("entry {} of the table is {found:?}, not {wanted:?}", place as i64 - EDGE as i64))
+    }
+}
+
+/// Numbers that differ from their neighbours.
+fn filling<T: From<u8>>(count: usize) -> Vec<T> {
+    (0..count).map(|index| T::from((index * 89 + 0x5a) as u8)).collect()
 }

@@ -1,14 +1,16 @@
 //! Holds the library against an independent reader and editor and a history of files: on generated files, on random sequences
 //! of edits, on images of the greatest length, on the marked cases of the written rules and on real files.
 //!
-//!     harness [--seed N] [--files N] [--elements N] [--sequences N]
+//!     harness [--seed N] [--files N] [--elements N] [--records N] [--sequences N]
 //!                                                       everything; stops at the first difference
 //!     harness [--seed N] --index N                      one generated file again, with its bytes
 //!     harness [--seed N] --element N                    one file with linked elements again, with its bytes
+//!     harness [--seed N] --record N                     one file with records again, with its bytes
 //!     harness [--seed N] --sequence N                   one sequence again, with its calls
 //!     harness --file PATH                               one file
 //!     harness --bench                                   how fast an element is copied
 
+mod arguments;
 mod bench;
 mod cases;
 mod compare;
@@ -20,11 +22,15 @@ mod history;
 mod images;
 mod lengths;
 mod lent;
+mod packing;
 mod random;
 mod reader;
+mod record_files;
+mod records;
 mod sequences;
 mod storage;
 mod tally;
+mod vset;
 
 use compare::{compare, Pairs};
 use images::Image;
@@ -37,16 +43,22 @@ use tally::Tally;
 const DEFAULT_SEED: u64 = 19_930_401;
 const DEFAULT_FILES: u64 = 250_000;
 const DEFAULT_ELEMENTS: u64 = 40_000;
+const DEFAULT_RECORDS: u64 = 40_000;
 const DEFAULT_SEQUENCES: u64 = 30_000;
+
+/// Compares what a seed and an index make.
+type Generated = fn(u64, u64, &mut Tally) -> Result<(), String>;
 
 /// What the arguments ask for.
 struct Options {
     seed: u64,
     files: u64,
     elements: u64,
+    records: u64,
     sequences: u64,
     index: Option<u64>,
     element: Option<u64>,
+    record: Option<u64>,
     sequence: Option<u64>,
     file: Option<PathBuf>,
     bench: bool,
@@ -68,9 +80,11 @@ fn options() -> Result<Options, String> {
         seed: DEFAULT_SEED,
         files: DEFAULT_FILES,
         elements: DEFAULT_ELEMENTS,
+        records: DEFAULT_RECORDS,
         sequences: DEFAULT_SEQUENCES,
         index: None,
         element: None,
+        record: None,
         sequence: None,
         file: None,
         bench: false,
@@ -86,9 +100,11 @@ fn options() -> Result<Options, String> {
             "--seed" => options.seed = number(&value)?,
             "--files" => options.files = number(&value)?,
             "--elements" => options.elements = number(&value)?,
+            "--records" => options.records = number(&value)?,
             "--sequences" => options.sequences = number(&value)?,
             "--index" => options.index = Some(number(&value)?),
             "--element" => options.element = Some(number(&value)?),
+            "--record" => options.record = Some(number(&value)?),
             "--sequence" => options.sequence = Some(number(&value)?),
             "--file" => options.file = Some(value.into()),
             _ => return Err(format!("{name}: no such option")),
@@ -116,6 +132,9 @@ fn run(options: &Options) -> Result<(), String> {
     if let Some(index) = options.element {
         return elements::show(options.seed, index, &mut tally);
     }
+    if let Some(index) = options.record {
+        return record_files::show(options.seed, index, &mut tally);
+    }
     if let Some(index) = options.sequence {
         return sequences::show(options.seed, index, &mut tally);
     }
@@ -135,6 +154,7 @@ fn run_all(options: &Options, random: &mut Random, tally: &mut Tally) -> Result<
         compare(&case.image, Pairs::All, random, tally).map_err(|difference| difference.to_string())?;
     }
     println!("{} marked cases", cases.len() + cases::edits::check(tally)?);
+    println!("{} records with known numbers", cases::records::check(random, tally)?);
 
     println!("{} real files", files::compare_all(random, tally)?);
     report(tally)
@@ -142,24 +162,20 @@ fn run_all(options: &Options, random: &mut Random, tally: &mut Tally) -> Result<
 
 /// The generated files and sequences.
 fn run_generated(options: &Options, tally: &mut Tally) -> Result<(), String> {
-    let Options { seed, files, elements, sequences, .. } = options;
-    let start = Instant::now();
-    for index in 0..*files {
-        compare_generated(*seed, index, tally)?;
-    }
-    println!("{files} generated files, seed {seed}, {:.1} s", start.elapsed().as_secs_f64());
+    let Options { seed, files, elements, records, sequences, .. } = *options;
+    run_each(files, "generated files", seed, compare_generated, tally)?;
+    run_each(elements, "files with linked elements", seed, elements::compare, tally)?;
+    run_each(records, "files with records", seed, record_files::compare, tally)?;
+    run_each(sequences, "sequences of edits", seed, sequences::compare, tally)
+}
 
+/// So many of one kind, and how long they took.
+fn run_each(count: u64, title: &str, seed: u64, compare: Generated, tally: &mut Tally) -> Result<(), String> {
     let start = Instant::now();
-    for index in 0..*elements {
-        elements::compare(*seed, index, tally)?;
+    for index in 0..count {
+        compare(seed, index, tally)?;
     }
-    println!("{elements} files with linked elements, seed {seed}, {:.1} s", start.elapsed().as_secs_f64());
-
-    let start = Instant::now();
-    for index in 0..*sequences {
-        sequences::compare(*seed, index, tally)?;
-    }
-    println!("{sequences} sequences of edits, seed {seed}, {:.1} s", start.elapsed().as_secs_f64());
+    println!("{count} {title}, seed {seed}, {:.1} s", start.elapsed().as_secs_f64());
     Ok(())
 }
 

@@ -2,7 +2,9 @@
 
 use crate::editor::{Reason, BAD_TRAILER, NO_EDIT, NO_ROOM, PRESENT};
 use crate::reader::{ABSENT, SMALL, TWICE};
+use crate::records::{Cause, DEEP, NO_VALUE, RECORD, TYPE};
 use crate::storage::{Way, CHAIN, STORAGE};
+use crate::vset::TYPES;
 use std::fmt;
 
 /// The calls of the library. A further call gets a further case here, in `CALLS` and in `can_answer`.
@@ -18,9 +20,21 @@ pub enum Call {
     Replace,
     Remove,
     Undo,
+    ReadNumberType,
+    ReadDimension,
+    ReadArray,
+    ReadGroup,
+    ReadVdata,
+    ReadValue,
+    ListGroup,
+    PackNumberType,
+    PackDimension,
+    PackArray,
+    PackGroup,
+    PackVdata,
 }
 
-const CALLS: [Call; 10] = [
+const CALLS: [Call; 22] = [
     Call::Open,
     Call::List,
     Call::Find,
@@ -31,7 +45,20 @@ const CALLS: [Call; 10] = [
     Call::Replace,
     Call::Remove,
     Call::Undo,
+    Call::ReadNumberType,
+    Call::ReadDimension,
+    Call::ReadArray,
+    Call::ReadGroup,
+    Call::ReadVdata,
+    Call::ReadValue,
+    Call::ListGroup,
+    Call::PackNumberType,
+    Call::PackDimension,
+    Call::PackArray,
+    Call::PackGroup,
+    Call::PackVdata,
 ];
+const FILE_CALLS: usize = 10;
 const READS: [Call; 3] = [Call::View, Call::Copy, Call::Choose];
 const EDITS: [Call; 4] = [Call::Add, Call::Replace, Call::Remove, Call::Undo];
 const NUMBERS: usize = 31;
@@ -93,6 +120,53 @@ const WAYS: [(Way, &str); 32] = [
     (Way::Room, "14 room"),
 ];
 
+/// The causes of an answer of a call on records, with their names in the table.
+const CAUSES: [(Cause, &str); 43] = [
+    (Cause::Whole, "0 whole"),
+    (Cause::BytesBehind, "0 bytes behind"),
+    (Cause::ByRecord, "0 by record"),
+    (Cause::ByField, "0 by field"),
+    (Cause::NoGroupInside, "0 no group inside"),
+    (Cause::GroupsInside, "0 groups inside"),
+    (Cause::MostNested, "0 16 groups"),
+    (Cause::MostPairs, "0 4,096 pairs"),
+    (Cause::Opening, "1 to 10 opening"),
+    (Cause::Absent, "11 absent"),
+    (Cause::Extended, "12 extended"),
+    (Cause::Length, "15 length"),
+    (Cause::Cut, "15 cut"),
+    (Cause::Rank, "15 rank"),
+    (Cause::PairCount, "15 count of pairs"),
+    (Cause::OddMembers, "15 half a member"),
+    (Cause::ManyMembers, "15 count of members"),
+    (Cause::LongName, "15 long name"),
+    (Cause::LongClass, "15 long class"),
+    (Cause::Interlace, "15 interlace"),
+    (Cause::Version, "15 version"),
+    (Cause::FieldCount, "15 257th field"),
+    (Cause::FieldEntries, "15 half a field"),
+    (Cause::NamesLength, "15 field names"),
+    (Cause::Order, "15 order 0"),
+    (Cause::Type, "16 type"),
+    (Cause::Size, "15 size"),
+    (Cause::Offset, "15 offset"),
+    (Cause::RecordSize, "15 record size"),
+    (Cause::Record, "17 record"),
+    (Cause::Field, "17 field"),
+    (Cause::Component, "17 component"),
+    (Cause::DataAbsent, "11 data absent"),
+    (Cause::DataExtended, "12 data extended"),
+    (Cause::DataShort, "15 data short"),
+    (Cause::TableFull, "14 table full"),
+    (Cause::TooManyPairs, "14 4,097th pair"),
+    (Cause::Deep, "22 deep"),
+    (Cause::MemberAbsent, "11 member absent"),
+    (Cause::MemberExtended, "12 member extended"),
+    (Cause::MemberBroken, "15 member broken"),
+    (Cause::FirstRoom, "14 room"),
+    (Cause::SecondRoom, "14 second room"),
+];
+
 #[derive(Default)]
 pub struct Tally {
     pub files: u64,
@@ -102,6 +176,18 @@ pub struct Tally {
     reached: [[u64; NUMBERS]; CALLS.len()],
     broken: [[u64; REASONS.len()]; CALLS.len()],
     gone: [[u64; WAYS.len()]; CALLS.len()],
+    caused: Causes,
+    /// Values read of each type, by record and by field.
+    values: [[u64; 2]; TYPES.len()],
+}
+
+/// How often each call on records came to an answer by each cause.
+struct Causes([[u64; CAUSES.len()]; CALLS.len()]);
+
+impl Default for Causes {
+    fn default() -> Causes {
+        Causes([[0; CAUSES.len()]; CALLS.len()])
+    }
 }
 
 impl Call {
@@ -117,7 +203,28 @@ impl Call {
             Call::Replace => "replace",
             Call::Remove => "remove",
             Call::Undo => "undo",
+            Call::ReadNumberType => "read type",
+            Call::ReadDimension => "read dim",
+            Call::ReadArray => "read array",
+            Call::ReadGroup => "read group",
+            Call::ReadVdata => "read vdata",
+            Call::ReadValue => "read value",
+            Call::ListGroup => "list group",
+            Call::PackNumberType => "pack type",
+            Call::PackDimension => "pack dim",
+            Call::PackArray => "pack array",
+            Call::PackGroup => "pack group",
+            Call::PackVdata => "pack vdata",
         }
+    }
+
+    /// Whether the call packs a record, so that there is no image.
+    fn packs(self) -> bool {
+        self as usize >= Call::PackNumberType as usize
+    }
+
+    fn is_on_records(self) -> bool {
+        self as usize >= FILE_CALLS
     }
 
     /// Whether some input makes the call answer this number.
@@ -131,8 +238,17 @@ impl Call {
             Call::Add => &[PRESENT, NO_ROOM],
             Call::Replace | Call::Remove => &[ABSENT, NO_ROOM],
             Call::Undo => &[NO_EDIT, BAD_TRAILER],
+            Call::ReadNumberType | Call::ReadDimension => &[ABSENT, STORAGE, RECORD],
+            Call::ReadArray | Call::ReadGroup => &[ABSENT, STORAGE, SMALL, RECORD],
+            Call::ReadVdata => &[ABSENT, STORAGE, SMALL, RECORD, TYPE],
+            Call::ReadValue => &[ABSENT, STORAGE, RECORD, TYPE, NO_VALUE],
+            Call::ListGroup => &[ABSENT, STORAGE, SMALL, RECORD, DEEP],
+            Call::PackNumberType => &[SMALL],
+            Call::PackDimension | Call::PackArray | Call::PackGroup => &[SMALL, RECORD],
+            Call::PackVdata => &[SMALL, RECORD, TYPE],
         };
-        number <= TWICE || others.contains(&number)
+        let opens = number <= TWICE && !self.packs();
+        number == 0 || opens || others.contains(&number)
     }
 
     /// Whether this rule can refuse the call.
@@ -143,6 +259,36 @@ impl Call {
             Reason::Present | Reason::Blocks | Reason::Slots => self == Call::Add,
             Reason::Absent => self == Call::Replace || self == Call::Remove,
             _ => self == Call::Undo,
+        }
+    }
+
+    /// Whether the call can come to an answer by this cause.
+    fn can_come(self, cause: Cause) -> bool {
+        let heads = [Call::ReadVdata, Call::ReadValue, Call::PackVdata];
+        let groups = [Call::ReadGroup, Call::ListGroup, Call::PackGroup];
+        let interlaced = [Call::ReadDimension, Call::PackDimension];
+        match cause {
+            Cause::Whole => self.is_on_records() && self != Call::ReadValue && self != Call::ListGroup,
+            Cause::BytesBehind => self == Call::ReadGroup || self == Call::ReadVdata,
+            Cause::Opening | Cause::Absent | Cause::Extended => self.is_on_records() && !self.packs(),
+            Cause::Length => [Call::ReadNumberType, Call::ReadDimension, Call::ReadArray].contains(&self),
+            Cause::Cut => (heads.contains(&self) || groups.contains(&self)) && !self.packs(),
+            Cause::Rank => self == Call::ReadArray || self == Call::PackArray,
+            Cause::PairCount => self == Call::PackArray,
+            Cause::OddMembers | Cause::ManyMembers => self == Call::PackGroup,
+            Cause::LongName | Cause::LongClass => self == Call::PackGroup || self == Call::PackVdata,
+            Cause::Interlace => heads.contains(&self) || interlaced.contains(&self),
+            Cause::Version => heads.contains(&self) || groups.contains(&self),
+            Cause::FieldEntries | Cause::NamesLength => self == Call::PackVdata,
+            Cause::FieldCount | Cause::Order | Cause::Type => heads.contains(&self),
+            Cause::Size | Cause::Offset | Cause::RecordSize => heads.contains(&self),
+            Cause::FirstRoom => [Call::ReadArray, Call::ReadGroup, Call::ReadVdata].contains(&self) || self.packs(),
+            Cause::SecondRoom => self == Call::ReadArray || self == Call::ReadVdata,
+            Cause::ByRecord | Cause::ByField | Cause::Record | Cause::Field | Cause::Component => {
+                self == Call::ReadValue
+            }
+            Cause::DataAbsent | Cause::DataExtended | Cause::DataShort => self == Call::ReadValue,
+            _ => self == Call::ListGroup,
         }
     }
 
@@ -172,6 +318,17 @@ impl Tally {
         self.gone[call as usize][way as usize] += 1;
     }
 
+    pub fn count_cause(&mut self, call: Call, cause: Cause) {
+        self.caused.0[call as usize][cause as usize] += 1;
+    }
+
+    /// A value of a type, read by record or by field.
+    pub fn count_value(&mut self, number_type: u16, cause: Cause) {
+        if let Some(index) = TYPES.iter().position(|(known, _)| *known == number_type) {
+            self.values[index][usize::from(cause == Cause::ByField)] += 1;
+        }
+    }
+
     pub fn calls(&self) -> u64 {
         self.reached.iter().flatten().sum()
     }
@@ -179,13 +336,18 @@ impl Tally {
     /// The numbers and rules that a whole run must reach with a call, but this one did not.
     pub fn never_reached(&self) -> Vec<String> {
         let name = |call: Call, what: &str| format!("{}: {what}", call.title());
-        let numbers = cells(numbers()).filter(|(number, call)| self.number(*call, *number) == Some(0));
+        let numbers = cells(numbers_of(&CALLS)).filter(|(number, call)| self.number(*call, *number) == Some(0));
         let reasons = cells(REASONS.into_iter()).filter(|((reason, _), call)| self.reason(*call, *reason) == Some(0));
         let ways = cells(WAYS.into_iter()).filter(|((way, _), call)| self.way(*call, *way) == Some(0));
         let numbers = numbers.map(|(number, call)| name(call, &number.to_string()));
         let ways = ways.map(|((_, title), call)| name(call, title));
+        let causes = cells(CAUSES.into_iter()).filter(|((cause, _), call)| self.cause(*call, *cause) == Some(0));
+        let causes = causes.map(|((_, title), call)| name(call, title));
+        let values = TYPES.iter().zip(&self.values).filter(|(_, counts)| counts.contains(&0));
+        let values = values.map(|((number_type, _), _)| name(Call::ReadValue, &format!("type {number_type}")));
         let starts = (self.undone_starts == 0).then(|| name(Call::Undo, "an edit before the sequence"));
-        numbers.chain(reasons.map(|((_, title), call)| name(call, title))).chain(ways).chain(starts).collect()
+        let reasons = reasons.map(|((_, title), call)| name(call, title));
+        numbers.chain(reasons).chain(ways).chain(causes).chain(values).chain(starts).collect()
     }
 
     /// How often a call answered a number, where it can.
@@ -198,15 +360,20 @@ impl Tally {
         call.can_go(way).then(|| self.gone[call as usize][way as usize])
     }
 
+    /// How often a call came to an answer by a cause, where it can.
+    fn cause(&self, call: Call, cause: Cause) -> Option<u64> {
+        call.can_come(cause).then(|| self.caused.0[call as usize][cause as usize])
+    }
+
     /// How often a rule refused a call, where it can.
     fn reason(&self, call: Call, reason: Reason) -> Option<u64> {
         call.can_break(reason).then(|| self.broken[call as usize][reason as usize])
     }
 }
 
-/// The numbers that some call can answer.
-fn numbers() -> impl Iterator<Item = u64> {
-    (0..NUMBERS as u64).filter(|number| CALLS.iter().any(|call| call.can_answer(*number)))
+/// The numbers that some of these calls can answer.
+fn numbers_of(calls: &[Call]) -> impl Iterator<Item = u64> + '_ {
+    (0..NUMBERS as u64).filter(|number| calls.iter().any(|call| call.can_answer(*number)))
 }
 
 /// Each row with each call.
@@ -216,15 +383,26 @@ fn cells<R: Copy>(rows: impl Iterator<Item = R>) -> impl Iterator<Item = (R, Cal
 
 impl fmt::Display for Tally {
     fn fmt(&self, out: &mut fmt::Formatter) -> fmt::Result {
-        head(out, "number", &CALLS)?;
-        for number in numbers() {
-            row(out, &number.to_string(), CALLS.iter().map(|call| self.number(*call, number)))?;
+        let (on_files, on_records) = CALLS.split_at(FILE_CALLS);
+        for calls in [on_files, on_records] {
+            head(out, "number", calls.iter().map(|call| call.title()))?;
+            for number in numbers_of(calls) {
+                row(out, &number.to_string(), calls.iter().map(|call| self.number(*call, number)))?;
+            }
         }
-        head(out, "reading", &READS)?;
+        head(out, "reading", READS.iter().map(|call| call.title()))?;
         for (way, title) in WAYS {
             row(out, title, READS.iter().map(|call| self.way(*call, way)))?;
         }
-        head(out, "rule", &EDITS)?;
+        head(out, "record", on_records.iter().map(|call| call.title()))?;
+        for (cause, title) in CAUSES {
+            row(out, title, on_records.iter().map(|call| self.cause(*call, cause)))?;
+        }
+        head(out, "values of type", ["by record", "by field"].into_iter())?;
+        for ((number_type, _), counts) in TYPES.iter().zip(&self.values) {
+            row(out, &number_type.to_string(), counts.iter().copied().map(Some))?;
+        }
+        head(out, "rule", EDITS.iter().map(|call| call.title()))?;
         for (reason, title) in REASONS {
             row(out, title, EDITS.iter().map(|call| self.reason(*call, reason)))?;
         }
@@ -232,10 +410,10 @@ impl fmt::Display for Tally {
     }
 }
 
-fn head(out: &mut fmt::Formatter, title: &str, calls: &[Call]) -> fmt::Result {
+fn head<'a>(out: &mut fmt::Formatter, title: &str, columns: impl Iterator<Item = &'a str>) -> fmt::Result {
     write!(out, "{title:<21}")?;
-    for call in calls {
-        write!(out, "{:>10}", call.title())?;
+    for column in columns {
+        write!(out, "{column:>11}")?;
     }
     writeln!(out)
 }
@@ -244,7 +422,7 @@ fn head(out: &mut fmt::Formatter, title: &str, calls: &[Call]) -> fmt::Result {
 fn row(out: &mut fmt::Formatter, title: &str, counts: impl Iterator<Item = Option<u64>>) -> fmt::Result {
     write!(out, "{title:<21}")?;
     for count in counts {
-        write!(out, "{:>10}", count.map_or("-".into(), |count| count.to_string()))?;
+        write!(out, "{:>11}", count.map_or("-".into(), |count| count.to_string()))?;
     }
     writeln!(out)
 }

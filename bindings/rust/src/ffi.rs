@@ -1,5 +1,7 @@
 //! The C functions of the static library, behind safe functions: a slice's pointer is never null, and its length is its own.
 
+pub mod records;
+
 #[repr(C)]
 pub struct OpenAnswer {
     pub number: u64,

@@ -1,11 +1,17 @@
 //! A safe interface to the proved HDF4 library: slices in, `Result` out.
 //!
-//! An image is the bytes of a whole file. Nothing is kept between calls, and nothing is allocated but the list of elements.
+//! An image is the bytes of a whole file. Nothing is kept between calls, and nothing is allocated but lists.
 //!
 //! # Reading
 //!
 //! [`view`] gives an element's own part of the image, [`choose`] that of the first of two images that has the element, and
 //! [`copy`] writes its bytes to a buffer, also where the element is of linked blocks.
+//!
+//! # Records
+//!
+//! Elements of certain tags are records. [`read_number_type`], [`read_dimension`], [`read_array`], [`read_group`] and
+//! [`read_vdata`] read them; the functions named after `pack` write their bytes, to be stored by [`add`] or [`replace`].
+//! [`read_value`] gives a value of a Vdata, [`list_group`] all that is below a Vgroup.
 //!
 //! # Edits
 //!
@@ -38,6 +44,13 @@
 //! ```
 
 mod ffi;
+mod records;
+mod vset;
+
+pub use records::{pack_array, pack_dimension, pack_number_type, read_array, read_dimension, read_number_type};
+pub use records::{Array, Dimension, NumberType, Pair};
+pub use vset::{list_group, pack_group, pack_vdata, read_group, read_value, read_vdata};
+pub use vset::{Field, Group, Value, Vdata, MOST_FIELDS, MOST_PAIRS};
 
 use std::fmt;
 
@@ -73,6 +86,12 @@ pub enum Rule {
     Chain,
     /// The lent output is too short.
     Small,
+    /// A record breaks its layout.
+    Record,
+    /// A number type is not known.
+    Type,
+    /// The Vdata has no such record, field or component.
+    NoValue,
     /// An element with that base tag and reference is there already.
     Present,
     /// The buffer is shorter than the new image.
@@ -81,10 +100,12 @@ pub enum Rule {
     NoEdit,
     /// The trailer breaks a rule.
     BadTrailer,
+    /// Groups are nested past 16.
+    Deep,
 }
 
 /// Each rule with its number, its name, and what it says.
-const RULES: [(u64, Rule, &str, &str); 18] = [
+const RULES: [(u64, Rule, &str, &str); 22] = [
     (1, Rule::TooLong, "TOO_LONG", "the file is too long"),
     (2, Rule::NotHdf, "NOT_HDF", "this is no HDF4 file"),
     (3, Rule::DirCut, "DIR_CUT", "a block of descriptors is not wholly inside the file"),
@@ -99,10 +120,14 @@ const RULES: [(u64, Rule, &str, &str); 18] = [
     (12, Rule::Storage, "STORAGE", "the element is stored in a way that is not read here"),
     (13, Rule::Chain, "CHAIN", "the linked blocks of the element are broken"),
     (14, Rule::Small, "SMALL", "the output is too short"),
+    (15, Rule::Record, "RECORD", "a record breaks its layout"),
+    (16, Rule::Type, "TYPE", "a number type is not known"),
+    (17, Rule::NoValue, "NO_VALUE", "there is no such record, field or component"),
     (18, Rule::Present, "PRESENT", "there is already an element with that tag and reference"),
     (19, Rule::NoRoom, "NO_ROOM", "the buffer has no room for the edit"),
     (20, Rule::NoEdit, "NO_EDIT", "there is no edit to undo"),
     (21, Rule::BadTrailer, "BAD_TRAILER", "the trailer of the last edit is damaged"),
+    (22, Rule::Deep, "DEEP", "groups are nested more than 16 deep"),
 ];
 
 /// The most bytes by which an edit makes an image longer, besides its data: a block of descriptors and a trailer.
@@ -262,7 +287,7 @@ pub fn undo(buffer: &mut [u8], length: usize) -> Result<usize, Error> {
 }
 
 #[cfg(test)]
-mod tests {
+pub(crate) mod tests {
     use super::*;
 
     /// File A of the format's marked cases: one element, tag 100, reference 1, and a free slot.
@@ -349,9 +374,25 @@ mod tests {
         buffer
     }
 
-    fn rule(answer: Result<usize, Error>) -> (Rule, u64, u64) {
+    /// The rule, number and place of a refusal.
+    pub fn rule<T: fmt::Debug>(answer: Result<T, Error>) -> (Rule, u64, u64) {
         let error = answer.unwrap_err();
         (error.rule, error.number, error.place)
+    }
+
+    /// A file of one block with these elements, their slots from 10 on: tag, reference and bytes of each.
+    pub fn file_of(elements: &[(u16, u16, &[u8])]) -> Vec<u8> {
+        let mut image = b"\x0e\x03\x13\x01".to_vec();
+        image.extend((elements.len() as u16).to_be_bytes());
+        image.extend([0; 4]);
+        let mut offset = image.len() + 12 * elements.len();
+        for (tag, reference, bytes) in elements {
+            image.extend([tag.to_be_bytes(), reference.to_be_bytes()].concat());
+            image.extend([offset, bytes.len()].map(|number| (number as u32).to_be_bytes()).concat());
+            offset += bytes.len();
+        }
+        elements.iter().for_each(|(_, _, bytes)| image.extend(*bytes));
+        image
     }
 
     #[test]

@@ -27,7 +27,7 @@ use Rattle.directory.proofs.Search.{passed}
 use Rattle.directory.proofs.Slots.{base-below, base-above}
 use Rattle.directory.proofs.Rules.{opens-kept, opened-stops}
 use Rattle.storage.specs.Elements.{extendedAt, startAt, judged, plainFault, inPlain}
-use Rattle.storage.specs.View.{locatedAt}
+use Rattle.storage.specs.View.{locatedAt, refusalIn}
 use Rattle.storage.specs.declared.view.Located.{Located}
 use Rattle.storage.specs.declared.view.Located.the-variants.{Plain, Refused}
 
@@ -189,10 +189,6 @@ located-plain s (hit q) p offset size e =
           let z : _≡_ {A = ℕ} 0 1 = cc in absurd (omega arith)
     ]
 
-abbrev refusalIn : Located → Refusal
-refusalIn (Plain p offset size) = record { number = 0; place = 0 }
-refusalIn (Refused x) = x
-
 -- a refusal there is that of each call that reads plain storage alone
 pub located-refused : (s : List ℕ) (found : Hit) (x : Refusal) → locatedAt s found ≡ Refused x
     → (k : ℕ) (answer : ℕ → Answer) → inPlain k s answer found ≡ refuse k (x .number) (x .place)
@@ -207,6 +203,18 @@ located-refused s (hit q) x e k answer =
           judged-stops k (plainFault s q) q (answer q) (λ z. suc-ne-zero (m .0) (sym (m .1) ∙ z))
           ∙ ap (λ n. refuse k n q) (m .1)
           ∙ ap (λ r. refuse k (refusalIn r .number) (refusalIn r .place)) (sym (locate-fault s q (m .0) (m .1)) ∙ e)
+    ]
+
+-- no refusal there has the number 0
+pub located-positive : (s : List ℕ) (found : Hit) (x : Refusal) → locatedAt s found ≡ Refused x → x .number ≡ 0 → ⊥
+unfolding locatedAt
+located-positive s miss x e q = suc-ne-zero 10 (ap (λ r. refusalIn r .number) e ∙ q)
+located-positive s (hit p) x e q =
+    elim (zero? (plainFault s p)) [
+      | inl z ↦
+          let r : Plain p (startAt s p) (sizeAt s p) ≡ Refused x = sym (locate-plain s p z) ∙ e in
+          let z : _≡_ {A = ℕ} 0 1 = cc in omega arith
+      | inr m ↦ suc-ne-zero (m .0) (ap (λ r. refusalIn r .number) (sym (locate-fault s p (m .0) (m .1)) ∙ e) ∙ q)
     ]
 
 pub plain-goes : (k : ℕ) (s : List ℕ) (answer : ℕ → Answer) (found : Hit) (p : ℕ) → found ≡ hit p → plainFault s p ≡ 0 → inPlain k s answer found ≡ answer p

@@ -1,6 +1,7 @@
 pub mod Elements
 pub mod Found
 pub mod Views
+pub mod Plain
 pub mod Choices
 pub mod Records
 pub mod Tables

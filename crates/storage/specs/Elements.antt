@@ -8,6 +8,8 @@ use Rattle.directory.specs.Limits.{extended-first, extended-last, ABSENT}
 use Rattle.directory.specs.Answer.{Answer, refuse}
 use Rattle.directory.specs.Search.{must, Hit, hit, miss}
 use Rattle.directory.specs.Slots.{tagAt, offsetAt, sizeAt}
+use Rattle.directory.specs.Opening.{opened}
+use Rattle.directory.specs.Lookup.{find}
 use Rattle.storage.specs.Limits.{STORAGE}
 
 -- an element is extended, and not in plain storage, by the tag of its slot
@@ -31,3 +33,7 @@ plainFault s p = must (not (extendedAt s p)) STORAGE 0
 unfoldable pub inPlain : ℕ → List ℕ → (ℕ → Answer) → Hit → Answer
 inPlain k s answer (hit p) = judged k (plainFault s p) p (answer p)
 inPlain k s answer miss = refuse k ABSENT 0
+
+-- such a call on an image: opening, then the lookup, then the storage, then what it goes on to at the slot
+abbrev pub readPlain : ℕ → List ℕ → ℕ → ℕ → (ℕ → Answer) → Answer
+readPlain k s tag ref answer = opened k s (inPlain k s answer (find s tag ref))

@@ -15,7 +15,7 @@ ghost use Rattle.directory.specs.Lookup.{has};
 ghost use Rattle.directory.specs.Cursor.{slotsAfter, most-place};
 ghost use Rattle.directory.specs.Slots.{sizeAt};
 ghost use Rattle.storage.specs.Elements.{extendedAt, startAt};
-ghost use Rattle.storage.specs.View.{locatedAt, viewedNumbers, viewOf, bytesOf};
+ghost use Rattle.storage.specs.View.{locatedAt, plainOf, refusalIn, viewedNumbers, viewOf, bytesOf};
 
 // An element in plain storage: the place of its slot, and where its bytes stand.
 pub enum Located {
@@ -93,15 +93,35 @@ pub fn locate(image: &[u8], blocks: usize, tag: u16, reference: u16) -> Located
     }
 }
 
+// The same in an image that is opened first.
+pub fn find_plain(image: &[u8], tag: u16, reference: u16) -> Located
+    ensures { λ r. ⌜ r ≡ plainOf (now (image .entry)) tag reference ⌝ }
+{
+    let opened = directory::open(image);
+    let Opened::Accepted(counts) = opened else {
+        return Located::Refused(directory::refusal_of(opened));
+    };
+    locate(image, counts.blocks, tag, reference)
+}
+
+// The refusal of an element that was not located.
+pub fn refusal_of(located: Located) -> Refusal
+    ensures { λ r. ⌜ r ≡ refusalIn located ⌝ }
+{
+    match located {
+        Located::Plain { .. } => Refusal {
+            number: 0,
+            place: 0,
+        },
+        Located::Refused(r) => r,
+    }
+}
+
 // Where the element's own part of the image stands.
 pub fn numbers(image: &[u8], tag: u16, reference: u16) -> Viewed
     ensures { λ r. ⌜ viewedNumbers r ≡ viewOf (now (image .entry)) tag reference ⌝ }
 {
-    let opened = directory::open(image);
-    let Opened::Accepted(counts) = opened else {
-        return Viewed::Refused(directory::refusal_of(opened));
-    };
-    match locate(image, counts.blocks, tag, reference) {
+    match find_plain(image, tag, reference) {
         Located::Refused(refusal) => Viewed::Refused(refusal),
         Located::Plain {
             slot: _,

@@ -3,7 +3,7 @@
 
 mod faults;
 
-use super::draft::{absurd_offset, free_slot, lay_out, Draft, Slot};
+use super::parts::{self, Part};
 use crate::random::Random;
 use crate::reader::{EXTENDED, MACHINE_TYPE};
 use crate::storage::{LINKED, LINK_TAG, MOST_TABLES};
@@ -18,13 +18,6 @@ const FIRST_LENGTH: usize = 8;
 const BLOCK_LENGTH: usize = 12;
 const BLOCK_COUNT: usize = 16;
 const TABLE: usize = 20;
-
-/// An element to be: tag, reference and bytes.
-struct Part {
-    tag: u16,
-    reference: u16,
-    bytes: Vec<u8>,
-}
 
 /// The parts of a linked element: the record, the tables in chain order, the blocks in the order in which they are taken.
 struct Plan {
@@ -50,7 +43,8 @@ pub fn image(random: &mut Random) -> Vec<u8> {
     for _ in 0..random.pick(&[0, 0, 1, 1, 1, 1, 1, 2, 2, 3]) {
         faults::spoil(random, &mut plan);
     }
-    lay(random, plan)
+    let Plan { record, tables, blocks, others } = plan;
+    parts::lay(random, tables.into_iter().chain(blocks).chain(others).chain([record]).collect())
 }
 
 /// Up to five tables, of up to four blocks.
@@ -151,53 +145,4 @@ fn others(random: &mut Random) -> Vec<Part> {
         parts.push(Part { tag: MACHINE_TYPE + extended, reference: random.below(3) as u16, bytes: vec![0; 30] });
     }
     parts
-}
-
-/// Lays the parts out in a file, in any order, with free slots among theirs.
-fn lay(random: &mut Random, plan: Plan) -> Vec<u8> {
-    let Plan { record, tables, blocks, others } = plan;
-    let mut parts: Vec<Part> = tables.into_iter().chain(blocks).chain(others).chain([record]).collect();
-    random.shuffle(&mut parts);
-    let slots = parts.len() + random.below(4);
-    let first = random.below(slots + 1);
-    let counts = if random.once_in(2) { vec![slots] } else { vec![first, slots - first] };
-    let mut draft = lay_out(random, &counts);
-    let mut parts = parts.into_iter().peekable();
-    for (index, place) in draft.slots().into_iter().enumerate() {
-        let is_free = slots - index > parts.len() && random.once_in(4);
-        let slot = match parts.next_if(|_| !is_free) {
-            Some(part) => append(random, &mut draft, part),
-            None => free_slot(random),
-        };
-        draft.put_slot(place, &slot);
-    }
-    draft.bytes
-}
-
-/// Appends the bytes of a part. An element of no bytes stands anywhere.
-fn append(random: &mut Random, draft: &mut Draft, part: Part) -> Slot {
-    let offset = match part.bytes.len() {
-        0 => absurd_offset(random, draft),
-        _ => draft.bytes.len() as u32,
-    };
-    draft.bytes.extend(&part.bytes);
-    Slot { tag: part.tag, reference: part.reference, offset, length: part.bytes.len() as u32 }
-}
-
-impl Part {
-    /// Writes bytes that lie inside the part; others are left out.
-    fn put(&mut self, place: usize, bytes: &[u8]) {
-        if let Some(part) = self.bytes.get_mut(place..place + bytes.len()) {
-            part.copy_from_slice(bytes);
-        }
-    }
-
-    fn put32(&mut self, place: usize, number: u32) {
-        self.put(place, &number.to_be_bytes());
-    }
-
-    fn get32(&self, place: usize) -> u32 {
-        let part = self.bytes.get(place..place + 4);
-        part.map_or(0, |part| u32::from_be_bytes([part[0], part[1], part[2], part[3]]))
-    }
 }

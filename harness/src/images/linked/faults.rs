@@ -1,9 +1,10 @@
 //! What can be wrong with a linked element. A table or block past the length is hit as well as one that is needed; then the
 //! element is whole nevertheless.
 
-use super::{Part, Plan, BLOCK_COUNT, BLOCK_LENGTH, FIRST_LENGTH, KIND, LENGTH, TABLE};
+use super::{Plan, BLOCK_COUNT, BLOCK_LENGTH, FIRST_LENGTH, KIND, LENGTH, TABLE};
+use crate::images::parts::Part;
 use crate::random::Random;
-use crate::reader::{EXTENDED, FREE};
+use crate::reader::FREE;
 
 type Fault = fn(&mut Random, &mut Plan);
 
@@ -94,7 +95,7 @@ fn table_absent(random: &mut Random, plan: &mut Plan) {
 }
 
 fn table_extended(random: &mut Random, plan: &mut Plan) {
-    extend(any(random, &mut plan.tables));
+    any(random, &mut plan.tables).extend();
 }
 
 /// One byte short of its entries, or far shorter.
@@ -128,7 +129,7 @@ fn block_absent(random: &mut Random, plan: &mut Plan) {
 }
 
 fn block_extended(random: &mut Random, plan: &mut Plan) {
-    extend(any(random, &mut plan.blocks));
+    any(random, &mut plan.blocks).extend();
 }
 
 fn block_short(random: &mut Random, plan: &mut Plan) {
@@ -165,10 +166,4 @@ fn put_entry(random: &mut Random, plan: &mut Plan, reference: u16) {
 fn any<'a>(random: &mut Random, parts: &'a mut [Part]) -> &'a mut Part {
     let index = random.below(parts.len());
     &mut parts[index]
-}
-
-fn extend(part: &mut Part) {
-    if part.tag < EXTENDED && part.tag != FREE {
-        part.tag += EXTENDED;
-    }
 }

@@ -1,31 +1,13 @@
 -- `storage::view::numbers` meets its contract. Assumes nothing.
-use mathlib.Core.Path.{sym}
-use Rattle.directory.proofs.Rules
+use mathlib.Core.Path.{sym, _∙_}
 use Rattle.storage.specs.View.{viewOf}
-use Rattle.storage.proofs.Found
-use Rattle.storage.proofs.Views
+use Rattle.storage.proofs.Plain
 use borrow.Author.Needs.{needs}
 use Rattle.storage.proofs.view.numbers.Statement.{statement}
 use Rattle.storage.proofs.view.numbers.Tie as tie
 
-open-requires : tie.Need-open-requires
-open-requires c κs = search needs
-
-enum-known-opened : tie.Need-enum-known-opened
-enum-known-opened c = search needs
-
-enum-told : tie.Need-enum-told
-enum-told c = search needs
-
-refusal-of-requires : tie.Need-refusal-of-requires
-refusal-of-requires c κs = search needs
-
-returns : tie.Need-returns
-unfolding viewOf
-returns c = rw (c .refusal-of .ensures) (sym (Rules.refused-is _ _ (c .before .before .before .«open» .ensures) 2 _ _ (c .before .enum-told .given .1)))
-
-locate-requires : tie.Need-locate-requires
-locate-requires c κs = search needs
+find-plain-requires : tie.Need-find-plain-requires
+find-plain-requires c κs = search needs
 
 enum-known-refusal : tie.Need-enum-known-refusal
 enum-known-refusal c = search needs
@@ -33,31 +15,16 @@ enum-known-refusal c = search needs
 enum-known-offset : tie.Need-enum-known-offset
 enum-known-offset c = search needs
 
-returns-2 : tie.Need-returns-2
-returns-2 c =
-    let o = Rules.accepted-is _ _ (c .before .before .before .before .before .before .before .«open» .ensures) _ (c .before .before .before .before .before .opened .given .1) in
-    let w = Found.opened-with _ _ _ _ o in
-    let located = Found.opened-located _ _ _ _ w _ (c .before .before .before .locate .ensures) _ (c .before .refusal .given .1) in
-    sym (Views.view-refused _ _ _ (w .sound) _ located)
+returns : tie.Need-returns
+unfolding viewOf
+returns c =
+    sym (Plain.reads-refused _ _ _ _ (sym (c .before .before .before .find-plain .ensures) ∙ c .before .refusal .given .1) 2 _)
 
-returns-3 : tie.Need-returns-3
-returns-3 c =
-    let o = Rules.accepted-is _ _ (c .before .before .before .before .before .before .before .«open» .ensures) _ (c .before .before .before .before .before .opened .given .1) in
-    let w = Found.opened-with _ _ _ _ o in
-    let located = Found.opened-located _ _ _ _ w _ (c .before .before .before .locate .ensures) _ (c .before .offset .given .1) in
-    sym (Views.view-plain _ _ _ (w .sound) _ _ _ located)
+returns-2 : tie.Need-returns-2
+unfolding viewOf
+returns-2 c =
+    let f = Plain.plain-found _ _ _ _ _ _ (sym (c .before .before .before .find-plain .ensures) ∙ c .before .offset .given .1) in
+    rw (f .starts, f .holds) (sym (Plain.reads-on _ _ _ _ _ _ f 2 _))
 
 pub numbers-spec : {M : Type 1} → statement M
-numbers-spec =
-    tie.close
-    (tie.spec
-    open-requires
-    enum-known-opened
-    enum-told
-    refusal-of-requires
-    returns
-    locate-requires
-    enum-known-refusal
-    enum-known-offset
-    returns-2
-    returns-3)
+numbers-spec = tie.close (tie.spec find-plain-requires enum-known-refusal enum-known-offset returns returns-2)

@@ -1,0 +1,272 @@
+//! Vgroups and Vdatas.
+
+use crate::ffi::records as ffi;
+use crate::records::{packed, pair, pairs_of, table_of, Pair};
+use crate::{granted, part, view, Error};
+use std::fmt;
+
+/// A Vgroup, of tag 1965. The version is 3.
+#[derive(Clone, Debug, PartialEq, Eq)]
+pub struct Group<'a> {
+    pub members: Vec<Pair>,
+    pub name: &'a [u8],
+    pub class: &'a [u8],
+    pub extension: Pair,
+    pub version: u16,
+    pub more: u16,
+}
+
+/// A field of a Vdata: `order` numbers of a type, `size` bytes from `offset` on in each record.
+#[derive(Clone, Copy, Debug, PartialEq, Eq)]
+pub struct Field<'a> {
+    pub name: &'a [u8],
+    pub number_type: u16,
+    pub size: u16,
+    pub offset: u16,
+    pub order: u16,
+}
+
+/// The head of a Vdata, of tag 1962. The interlace is 0 where the values stand by record, 1 where they stand by field; there
+/// are at most [`MOST_FIELDS`] fields, and the version is 3.
+#[derive(Clone, Debug, PartialEq, Eq)]
+pub struct Vdata<'a> {
+    pub interlace: u16,
+    pub records: u32,
+    pub record_size: u16,
+    pub fields: Vec<Field<'a>>,
+    pub name: &'a [u8],
+    pub class: &'a [u8],
+    pub extension: Pair,
+    pub version: u16,
+    pub more: u16,
+}
+
+/// A value of a Vdata. A float has the bits that it has in the file, also where it is a NaN.
+#[derive(Clone, Copy, Debug, PartialEq)]
+pub enum Value {
+    Signed(i64),
+    Unsigned(u64),
+    Float32(f32),
+    Float64(f64),
+}
+
+/// The most fields that a Vdata has.
+pub const MOST_FIELDS: usize = 256;
+
+/// The most pairs that the listing of a group has.
+pub const MOST_PAIRS: usize = 4096;
+
+const GROUP: u16 = 1965;
+const BYTES_OF_A_PAIR: usize = 4;
+
+impl Value {
+    fn new(kind: u64, bits: u64) -> Value {
+        match kind {
+            1 => Value::Signed(bits as i64),
+            3 => Value::Float32(f32::from_bits(bits as u32)),
+            4 => Value::Float64(f64::from_bits(bits)),
+            _ => Value::Unsigned(bits),
+        }
+    }
+}
+
+/// A number in decimal, a float in the fewest digits that give it back.
+impl fmt::Display for Value {
+    fn fmt(&self, f: &mut fmt::Formatter<'_>) -> fmt::Result {
+        match self {
+            Value::Signed(number) => write!(f, "{number}"),
+            Value::Unsigned(number) => write!(f, "{number}"),
+            Value::Float32(number) => write!(f, "{number:?}"),
+            Value::Float64(number) => write!(f, "{number:?}"),
+        }
+    }
+}
+
+/// Reads a Vgroup.
+pub fn read_group(image: &[u8], reference: u16) -> Result<Group<'_>, Error> {
+    let mut members = vec![0; 2 * (view(image, GROUP, reference)?.len() / BYTES_OF_A_PAIR)];
+    let a = ffi::read_group(image, reference, &mut members);
+    let count = granted(a.number, a.place, a.members as usize)?;
+    Ok(Group {
+        members: pairs_of(&members[..2 * count]),
+        name: part(image, a.tail.name_offset, a.tail.name_length),
+        class: part(image, a.tail.class_offset, a.tail.class_length),
+        extension: pair(a.tail.extension_tag, a.tail.extension_ref),
+        version: a.tail.version as u16,
+        more: a.tail.more as u16,
+    })
+}
+
+/// Packs a Vgroup to the front of `out` and gives its length.
+pub fn pack_group(group: &Group, out: &mut [u8]) -> Result<usize, Error> {
+    let Group { name, class, extension, version, more, .. } = *group;
+    packed(ffi::pack_group(&table_of(&group.members), &tail(name, class, extension, version, more), out))
+}
+
+fn tail<'a>(name: &'a [u8], class: &'a [u8], extension: Pair, version: u16, more: u16) -> ffi::Tail<'a> {
+    ffi::Tail { name, class, extension_tag: extension.tag, extension_ref: extension.reference, version, more }
+}
+
+/// Lists the members of a Vgroup in order, each member of tag 1965 followed by its own members.
+///
+/// At most 16 groups are nested, the named one included, and there are at most [`MOST_PAIRS`] pairs.
+pub fn list_group(image: &[u8], reference: u16) -> Result<Vec<Pair>, Error> {
+    let mut list = [0; 2 * MOST_PAIRS];
+    let a = ffi::list_group(image, reference, &mut list);
+    let count = granted(a.number, a.place, a.pairs as usize)?;
+    Ok(pairs_of(&list[..2 * count]))
+}
+
+/// Reads the head of a Vdata.
+pub fn read_vdata(image: &[u8], reference: u16) -> Result<Vdata<'_>, Error> {
+    let (mut fields, mut names) = ([0; 4 * MOST_FIELDS], [0; 2 * MOST_FIELDS]);
+    let a = ffi::read_vdata(image, reference, &mut fields, &mut names);
+    let count = granted(a.number, a.place, a.fields as usize)?;
+    let field = |(field, name): (&[u16], &[u32])| Field {
+        name: part(image, name[0].into(), name[1].into()),
+        number_type: field[0],
+        size: field[1],
+        offset: field[2],
+        order: field[3],
+    };
+    Ok(Vdata {
+        interlace: a.interlace as u16,
+        records: a.records as u32,
+        record_size: a.record_size as u16,
+        fields: fields.chunks_exact(4).zip(names.chunks_exact(2)).take(count).map(field).collect(),
+        name: part(image, a.tail.name_offset, a.tail.name_length),
+        class: part(image, a.tail.class_offset, a.tail.class_length),
+        extension: pair(a.tail.extension_tag, a.tail.extension_ref),
+        version: a.tail.version as u16,
+        more: a.tail.more as u16,
+    })
+}
+
+/// Packs the head of a Vdata to the front of `out` and gives its length.
+pub fn pack_vdata(vdata: &Vdata, out: &mut [u8]) -> Result<usize, Error> {
+    let Vdata { interlace, records, record_size, name, class, extension, version, more, .. } = *vdata;
+    let numbers = |field: &Field| [field.number_type, field.size, field.offset, field.order];
+    let fields: Vec<u16> = vdata.fields.iter().flat_map(numbers).collect();
+    // A longer name than a length can say is refused: the lengths then fall short of the names.
+    let length = |field: &Field| u16::try_from(field.name.len()).unwrap_or(u16::MAX);
+    let name_lengths: Vec<u16> = vdata.fields.iter().map(length).collect();
+    let names: Vec<u8> = vdata.fields.iter().flat_map(|field| field.name).copied().collect();
+    let tail = tail(name, class, extension, version, more);
+    let (fields, name_lengths, names) = (&fields[..], &name_lengths[..], &names[..]);
+    packed(ffi::pack_vdata(&ffi::Head { interlace, records, record_size, fields, name_lengths, names, tail }, out))
+}
+
+/// Reads one value of a Vdata. All indices count from 0.
+pub fn read_value(image: &[u8], reference: u16, record: usize, field: usize, component: usize) -> Result<Value, Error> {
+    let a = ffi::read_value(image, reference, record as u64, field as u64, component as u64);
+    granted(a.number, a.place, Value::new(a.kind, a.bits))
+}
+
+#[cfg(test)]
+mod tests {
+    use super::*;
+    use crate::tests::{file_of, rule};
+    use crate::Rule;
+
+    const NONE: Pair = Pair { tag: 0, reference: 0 };
+
+    fn member(tag: u16, reference: u16) -> Pair {
+        Pair { tag, reference }
+    }
+
+    fn group(members: &[Pair]) -> Vec<u8> {
+        let members = members.to_vec();
+        let mut out = [0; 200];
+        let group = Group { members, name: b"north", class: b"", extension: NONE, version: 3, more: 7 };
+        let length = pack_group(&group, &mut out).unwrap();
+        out[..length].to_vec()
+    }
+
+    #[test]
+    fn a_group_is_read_and_packed() {
+        let bytes = b"\0\x02\x07\xad\x07\xaa\0\x03\0\x04\0\x05north\0\0\0\0\0\0\0\x03\0\x07";
+        assert_eq!(group(&[member(1965, 3), member(1962, 4)]), bytes);
+        let image = file_of(&[(1965, 2, &[bytes, &b"more"[..]].concat())]);
+        let read = read_group(&image, 2).unwrap();
+        assert_eq!(read.members, [member(1965, 3), member(1962, 4)]);
+        assert_eq!((read.name, read.class, read.version, read.more), (&b"north"[..], &b""[..], 3, 7));
+        assert_eq!(rule(pack_group(&Group { version: 4, ..read.clone() }, &mut [0; 99])), (Rule::Record, 15, 0));
+        assert_eq!(rule(pack_group(&read, &mut [0; 26])), (Rule::Small, 14, 0));
+    }
+
+    #[test]
+    fn groups_are_listed_one_within_the_other() {
+        let outer = group(&[member(1965, 2), member(720, 9), member(1965, 3)]);
+        let inner = group(&[member(1962, 4), member(1963, 4)]);
+        let itself = group(&[member(1965, 4)]);
+        let image = file_of(&[(1965, 1, &outer), (1965, 2, &inner), (1965, 3, &group(&[])), (1965, 4, &itself)]);
+        let pairs = [(1965, 2), (1962, 4), (1963, 4), (720, 9), (1965, 3)].map(|(tag, reference)| member(tag, reference));
+        assert_eq!(list_group(&image, 1), Ok(pairs.to_vec()));
+        assert_eq!(list_group(&image, 3), Ok(vec![]));
+        assert_eq!(rule(list_group(&image, 4)), (Rule::Deep, 22, 46));
+        assert_eq!(rule(list_group(&image, 5)), (Rule::Absent, 11, 0));
+    }
+
+    fn vdata<'a>() -> Vdata<'a> {
+        let field = |name, number_type, size, offset, order| Field { name, number_type, size, offset, order };
+        let fields = vec![field(&b"height"[..], 22, 2, 0, 1), field(b"", 5, 8, 2, 2)];
+        let (name, class) = (&b"stations"[..], &b"roads"[..]);
+        Vdata { interlace: 0, records: 2, record_size: 10, fields, name, class, extension: NONE, version: 3, more: 0 }
+    }
+
+    /// A Vdata and two records: -2, 1.5 and a NaN; 300, 0 and -0.
+    fn file_of_values(interlace: u16) -> Vec<u8> {
+        let [one, two] = [b"\xff\xfe\x3f\xc0\0\0\x7f\x80\0\x01", b"\x01\x2c\0\0\0\0\x80\0\0\0"];
+        let data = match interlace {
+            0 => [&one[..], two].concat(),
+            _ => [&one[..2], &two[..2], &one[2..], &two[2..]].concat(),
+        };
+        let mut head = [0; 200];
+        let length = pack_vdata(&Vdata { interlace, ..vdata() }, &mut head).unwrap();
+        file_of(&[(1962, 7, &head[..length]), (1963, 7, &data)])
+    }
+
+    #[test]
+    fn a_head_is_packed_and_read() {
+        let image = file_of_values(0);
+        assert_eq!(read_vdata(&image, 7), Ok(vdata()));
+        let mut out = [0xee; 99];
+        let length = pack_vdata(&vdata(), &mut out).unwrap();
+        assert_eq!(view(&image, 1962, 7), Ok(&out[..length]));
+        assert!(out[length..].iter().all(|byte| *byte == 0xee));
+    }
+
+    #[test]
+    fn values_stand_by_record_or_by_field() {
+        for image in [file_of_values(0), file_of_values(1)] {
+            assert_eq!(read_value(&image, 7, 0, 0, 0), Ok(Value::Signed(-2)));
+            assert_eq!(read_value(&image, 7, 1, 0, 0), Ok(Value::Signed(300)));
+            assert_eq!(read_value(&image, 7, 0, 1, 0), Ok(Value::Float32(1.5)));
+            let Ok(Value::Float32(nan)) = read_value(&image, 7, 0, 1, 1) else { panic!("not a float") };
+            assert_eq!(nan.to_bits(), 0x7f80_0001);
+            assert_eq!(read_value(&image, 7, 1, 1, 1).unwrap().to_string(), "-0.0");
+            for [record, field, component] in [[2, 0, 0], [0, 2, 0], [0, 1, 2], [usize::MAX, 0, 0]] {
+                assert_eq!(rule(read_value(&image, 7, record, field, component)), (Rule::NoValue, 17, 0));
+            }
+        }
+    }
+
+    #[test]
+    fn heads_are_refused_by_their_rules() {
+        let mut bad = vdata();
+        bad.fields[1].number_type = 7;
+        assert_eq!(rule(pack_vdata(&bad, &mut [0; 99])), (Rule::Type, 16, 0));
+        bad.fields[0].order = 0;
+        assert_eq!(rule(pack_vdata(&bad, &mut [0; 99])), (Rule::Record, 15, 0));
+        let long = vec![b'a'; 65536];
+        let mut bad = vdata();
+        bad.fields[0].name = &long;
+        assert_eq!(rule(pack_vdata(&bad, &mut [0; 99])), (Rule::Record, 15, 0));
+
+        let mut image = file_of_values(0);
+        let place = view(&image, 1962, 7).unwrap().as_ptr() as usize - image.as_ptr() as usize;
+        image[place + 11] = 7;
+        assert_eq!(rule(read_vdata(&image, 7)), (Rule::Type, 16, 10));
+        assert_eq!(rule(read_value(&image, 7, 9, 9, 9)), (Rule::Type, 16, 10));
+    }
+}

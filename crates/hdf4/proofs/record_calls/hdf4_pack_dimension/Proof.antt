@@ -1,0 +1,21 @@
+-- `hdf4::record_calls::hdf4_pack_dimension` meets its contract. Assumes nothing.
+use mathlib.Core.Path.{_∙_}
+use borrow.Author.Needs.{needs}
+use Rattle.hdf4.proofs.record_calls.hdf4_pack_dimension.Statement.{statement}
+use Rattle.hdf4.proofs.record_calls.hdf4_pack_dimension.Tie as tie
+
+pack-requires : tie.Need-pack-requires
+pack-requires c κs = search needs
+
+pack-answer-requires : tie.Need-pack-answer-requires
+pack-answer-requires c κs = search needs
+
+same-length : tie.Need-same-length
+same-length c = search needs
+
+returns : tie.Need-returns
+returns c = record { answers = c .pack-answer .ensures ∙ c .before .before .before .pack .ensures .answers; leaves = c .before .before .before .pack .ensures .leaves }
+
+pub hdf4-pack-dimension-spec : {M : Type 1} → statement M
+hdf4-pack-dimension-spec =
+    tie.close (tie.spec pack-requires pack-answer-requires same-length returns)

@@ -1,0 +1,49 @@
+-- `hdf4::vset_calls::hdf4_read_group` meets its contract. Assumes nothing.
+use native.Mathlib.Omega.{arith}
+use mathlib.Core.Path.{sym, ap, _∙_}
+use Rattle.vset.specs.Groups.{groupNumbers}
+use Rattle.vset.proofs.Placing
+use borrow.Author.Needs.{needs}
+use Rattle.hdf4.proofs.vset_calls.hdf4_read_group.Statement.{statement}
+use Rattle.hdf4.proofs.vset_calls.hdf4_read_group.Tie as tie
+
+read-requires : tie.Need-read-requires
+read-requires c κs = search needs
+
+enum-known-answered : tie.Need-enum-known-answered
+enum-known-answered c = search needs
+
+add-t12 : tie.Need-add-t12
+add-t12 c = omega (arith, Placing.group-names _ _ _ _ (c .before .before .answered .given .0 .1 .0) (sym (c .before .before .before .before .before .before .read .ensures .0) ∙ ap groupNumbers (c .before .before .answered .given .1)) .0)
+
+add-t15 : tie.Need-add-t15
+add-t15 c = omega (arith, Placing.group-names _ _ _ _ (c .before .before .before .answered .given .0 .1 .0) (sym (c .before .before .before .before .before .before .before .read .ensures .0) ∙ ap groupNumbers (c .before .before .before .answered .given .1)) .1)
+
+enum-known-answered-2 : tie.Need-enum-known-answered-2
+enum-known-answered-2 c = search needs
+
+same-length : tie.Need-same-length
+same-length c = search needs
+
+returns : tie.Need-returns
+returns c = (ap groupNumbers (sym (c .before .before .before .answered .given .1)) ∙ c .before .before .before .before .before .before .before .read .ensures .0, c .before .before .before .before .before .before .before .read .ensures .1)
+
+same-length-2 : tie.Need-same-length-2
+same-length-2 c = search needs
+
+returns-2 : tie.Need-returns-2
+returns-2 c = (ap groupNumbers (sym (c .before .answered2 .given .1)) ∙ c .before .before .before .before .before .read .ensures .0, c .before .before .before .before .before .read .ensures .1)
+
+pub hdf4-read-group-spec : {M : Type 1} → statement M
+hdf4-read-group-spec =
+    tie.close
+    (tie.spec
+    read-requires
+    enum-known-answered
+    add-t12
+    add-t15
+    enum-known-answered-2
+    same-length
+    returns
+    same-length-2
+    returns-2)

@@ -1,0 +1,295 @@
+// The C interface of Vgroups and Vdatas.
+use super::record_calls::PackAnswer;
+use super::record_calls::pack_answer;
+use vset::group;
+use vset::head;
+use vset::head::Start;
+use vset::listing;
+use vset::listing::Listed;
+use vset::tail::Ending;
+use vset::value;
+use vset::value::Value;
+ghost use mathlib.Core.Path.{_≡_};
+ghost use mathlib.Core.List.{[], _∷_};
+ghost use lib.ListN.{length};
+ghost use Rattle.storage.specs.Copy.{laidOver};
+ghost use Rattle.records.specs.Reading.{recordBytes};
+ghost use Rattle.vset.specs.Limits.{group-tag, head-tag};
+ghost use Rattle.vset.specs.Groups.{groupOf, groupMembers, groupBytes, groupPackFault};
+ghost use Rattle.vset.specs.Heads.{headOf, headFields, headNames, startOf, headBytes, headPackFault};
+ghost use Rattle.directory.specs.Answer.{grant};
+ghost use Rattle.vset.specs.Types.{complement, valueKind, valueBits};
+ghost use Rattle.vset.specs.Values.{valueOf};
+ghost use Rattle.vset.specs.Listings.{listingOf, pairsOf};
+ghost use Rattle.hdf4.specs.RecordAnswers.{Packs};
+ghost use Rattle.hdf4.specs.VsetAnswers.{groupAnswer, vdataAnswer, valueAnswer, HasBits, pairsAnswer, endingFrom, startFrom};
+
+#[repr(C)]
+pub struct GroupAnswer {
+    pub number: u64,
+    pub place: u64,
+    pub members: u64,
+    pub name: u64,
+    pub name_length: u64,
+    pub class: u64,
+    pub class_length: u64,
+    pub extension_tag: u64,
+    pub extension_ref: u64,
+    pub version: u64,
+    pub more: u64,
+}
+
+#[repr(C)]
+pub struct VdataAnswer {
+    pub number: u64,
+    pub place: u64,
+    pub interlace: u64,
+    pub records: u64,
+    pub record_size: u64,
+    pub fields: u64,
+    pub name: u64,
+    pub name_length: u64,
+    pub class: u64,
+    pub class_length: u64,
+    pub extension_tag: u64,
+    pub extension_ref: u64,
+    pub version: u64,
+    pub more: u64,
+}
+
+#[repr(C)]
+pub struct ValueAnswer {
+    pub number: u64,
+    pub place: u64,
+    pub kind: u64,
+    pub bits: u64,
+}
+
+#[repr(C)]
+pub struct PairsAnswer {
+    pub number: u64,
+    pub place: u64,
+    pub pairs: u64,
+}
+
+#[no_mangle]
+pub extern "C" fn hdf4_read_group(image: &[u8], reference: u16, members: &mut [u16]) -> GroupAnswer
+    ensures answer { λ r. ⌜ groupAnswer r ≡ groupOf (now (image .entry)) reference (length (now (members .entry))) ⌝ }
+    ensures lent { λ _. ⌜ now (members .exit) ≡ laidOver (groupOf (now (image .entry)) reference (length (now (members .entry)))) (groupMembers (recordBytes (now (image .entry)) group-tag reference)) (now (members .entry)) ⌝ }
+{
+    let answered = group::read(image, reference, members);
+    match answered {
+        group::Answered::Values { start, group } => GroupAnswer {
+            number: 0,
+            place: 0,
+            members: group.members as u64,
+            name: (start + group.tail.name) as u64,
+            name_length: group.tail.name_length as u64,
+            class: (start + group.tail.class) as u64,
+            class_length: group.tail.class_length as u64,
+            extension_tag: group.tail.extension_tag as u64,
+            extension_ref: group.tail.extension_ref as u64,
+            version: group.tail.version as u64,
+            more: group.tail.more as u64,
+        },
+        group::Answered::Refused(r) => GroupAnswer {
+            number: r.number as u64,
+            place: r.place as u64,
+            members: 0,
+            name: 0,
+            name_length: 0,
+            class: 0,
+            class_length: 0,
+            extension_tag: 0,
+            extension_ref: 0,
+            version: 0,
+            more: 0,
+        },
+    }
+}
+
+#[no_mangle]
+pub extern "C" fn hdf4_pack_group(
+    members: &[u16],
+    name: &[u8],
+    class: &[u8],
+    extension_tag: u16,
+    extension_ref: u16,
+    version: u16,
+    more: u16,
+    out: &mut [u8],
+) -> PackAnswer
+    ensures { λ r. ⌜ Packs (groupPackFault (length (now (members .entry))) (length (now (name .entry))) (length (now (class .entry))) version) (groupBytes (now (members .entry)) (now (name .entry)) (now (class .entry)) (endingFrom «extension_tag» «extension_ref» version more)) (now (out .entry)) (now (out .exit)) r ⌝ }
+{
+    let x = Ending {
+        extension_tag,
+        extension_ref,
+        version,
+        more,
+    };
+    pack_answer(group::pack(members, name, class, x, out))
+}
+
+#[no_mangle]
+pub extern "C" fn hdf4_read_vdata(
+    image: &[u8],
+    reference: u16,
+    fields: &mut [u16],
+    names: &mut [u32],
+) -> VdataAnswer
+    ensures answer { λ r. ⌜ vdataAnswer r ≡ headOf (now (image .entry)) reference (length (now (fields .entry))) (length (now (names .entry))) ⌝ }
+    ensures fields { λ _. ⌜ now (fields .exit) ≡ laidOver (headOf (now (image .entry)) reference (length (now (fields .entry))) (length (now (names .entry)))) (headFields (recordBytes (now (image .entry)) head-tag reference)) (now (fields .entry)) ⌝ }
+    ensures names { λ _. ⌜ now (names .exit) ≡ laidOver (headOf (now (image .entry)) reference (length (now (fields .entry))) (length (now (names .entry)))) (headNames (startOf (now (image .entry)) reference) (recordBytes (now (image .entry)) head-tag reference)) (now (names .entry)) ⌝ }
+{
+    let answered = head::read(image, reference, fields, names);
+    match answered {
+        head::Answered::Values { start, head } => VdataAnswer {
+            number: 0,
+            place: 0,
+            interlace: head.interlace as u64,
+            records: head.records as u64,
+            record_size: head.record_size as u64,
+            fields: head.fields as u64,
+            name: (start + head.tail.name) as u64,
+            name_length: head.tail.name_length as u64,
+            class: (start + head.tail.class) as u64,
+            class_length: head.tail.class_length as u64,
+            extension_tag: head.tail.extension_tag as u64,
+            extension_ref: head.tail.extension_ref as u64,
+            version: head.tail.version as u64,
+            more: head.tail.more as u64,
+        },
+        head::Answered::Refused(r) => VdataAnswer {
+            number: r.number as u64,
+            place: r.place as u64,
+            interlace: 0,
+            records: 0,
+            record_size: 0,
+            fields: 0,
+            name: 0,
+            name_length: 0,
+            class: 0,
+            class_length: 0,
+            extension_tag: 0,
+            extension_ref: 0,
+            version: 0,
+            more: 0,
+        },
+    }
+}
+
+#[no_mangle]
+pub extern "C" fn hdf4_pack_vdata(
+    interlace: u16,
+    records: u32,
+    record_size: u16,
+    fields: &[u16],
+    name_lengths: &[u16],
+    names: &[u8],
+    name: &[u8],
+    class: &[u8],
+    extension_tag: u16,
+    extension_ref: u16,
+    version: u16,
+    more: u16,
+    out: &mut [u8],
+) -> PackAnswer
+    ensures { λ r. ⌜ (let b = startFrom interlace records «record_size» in Packs (headPackFault b (now (fields .entry)) (now («name_lengths» .entry)) (length (now (names .entry))) (length (now (name .entry))) (length (now (class .entry))) version) (headBytes b (now (fields .entry)) (now («name_lengths» .entry)) (now (names .entry)) (now (name .entry)) (now (class .entry)) (endingFrom «extension_tag» «extension_ref» version more)) (now (out .entry)) (now (out .exit)) r) ⌝ }
+{
+    let b = Start {
+        interlace,
+        records,
+        record_size,
+    };
+    let x = Ending {
+        extension_tag,
+        extension_ref,
+        version,
+        more,
+    };
+    pack_answer(head::pack(b, fields, name_lengths, names, name, class, x, out))
+}
+
+// A number in 64 bits of two's complement.
+fn in_bits(z: i64) -> u64
+    ensures { λ r. ⌜ r ≡ complement z ⌝ }
+{
+    if z < 0 {
+        let below = (-1 - z) as u64;
+        return 18446744073709551615 - below;
+    }
+    z as u64
+}
+
+fn wide(n: u32) -> u64
+    ensures { λ r. ⌜ r ≡ n ⌝ }
+{
+    n as u64
+}
+
+fn granted(kind: u64, bits: u64) -> ValueAnswer
+    ensures { λ r. ⌜ valueAnswer r ≡ grant (kind ∷ bits ∷ []) ⌝ }
+{
+    ValueAnswer {
+        number: 0,
+        place: 0,
+        kind,
+        bits,
+    }
+}
+
+fn value_answer(v: Value) -> ValueAnswer
+    requires { ⌜ HasBits v ⌝ }
+    ensures { λ r. ⌜ valueAnswer r ≡ grant (valueKind v ∷ valueBits v ∷ []) ⌝ }
+{
+    match v {
+        Value::Signed(z) => granted(1, in_bits(z)),
+        Value::Unsigned(n) => granted(2, n),
+        Value::Float32(x) => granted(3, wide(f32::to_bits(x))),
+        Value::Float64(x) => granted(4, f64::to_bits(x)),
+        Value::Nan32(n) => granted(3, wide(n)),
+        Value::Nan64(n) => granted(4, n),
+    }
+}
+
+#[no_mangle]
+pub extern "C" fn hdf4_read_value(
+    image: &[u8],
+    reference: u16,
+    record: u64,
+    field: u64,
+    component: u64,
+) -> ValueAnswer
+    ensures { λ r. ⌜ valueAnswer r ≡ valueOf (now (image .entry)) reference «record» field component ⌝ }
+{
+    let answered = value::read(image, reference, record, field, component);
+    match answered {
+        value::Answered::Value(v) => value_answer(v),
+        value::Answered::Refused(r) => ValueAnswer {
+            number: r.number as u64,
+            place: r.place as u64,
+            kind: 0,
+            bits: 0,
+        },
+    }
+}
+
+#[no_mangle]
+pub extern "C" fn hdf4_list_group(image: &[u8], reference: u16, list: &mut [u16]) -> PairsAnswer
+    ensures answer { λ r. ⌜ pairsAnswer r ≡ listingOf (now (image .entry)) reference (length (now (list .entry))) ⌝ }
+    ensures lent { λ _. ⌜ now (list .exit) ≡ laidOver (listingOf (now (image .entry)) reference (length (now (list .entry)))) (pairsOf (now (image .entry)) reference (length (now (list .entry)))) (now (list .entry)) ⌝ }
+{
+    let listed = listing::list(image, reference, list);
+    match listed {
+        Listed::Pairs(n) => PairsAnswer {
+            number: 0,
+            place: 0,
+            pairs: n as u64,
+        },
+        Listed::Refused(r) => PairsAnswer {
+            number: r.number as u64,
+            place: r.place as u64,
+            pairs: 0,
+        },
+    }
+}

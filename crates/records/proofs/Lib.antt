@@ -1,0 +1,8 @@
+pub mod Layouts
+pub mod Readings
+pub mod Packings
+pub mod Loops
+pub mod NumberTypes
+pub mod Dimensions
+pub mod Arrays
+pub mod Claims

@@ -1,0 +1,24 @@
+-- Numbers that document 01 fixes for records, each named once: tags, limits, and the refusal numbers of its table. Assumes nothing.
+use Prim.Native.Nat.{ℕ}
+
+-- ---- Tags
+
+abbrev pub number-type-tag : ℕ
+number-type-tag = 106
+
+abbrev pub array-tag : ℕ
+array-tag = 701
+
+-- ---- Limits
+
+abbrev pub most-interlace : ℕ
+most-interlace = 2
+
+-- the greatest number of 16 bits
+abbrev pub most-count : ℕ
+most-count = 65535
+
+-- ---- Refusal numbers
+
+abbrev pub RECORD : ℕ
+RECORD = 15

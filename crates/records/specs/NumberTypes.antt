@@ -1,0 +1,35 @@
+-- Number types, tag 106, after document 01, "Records". Assumes nothing.
+use Prim.Native.Nat.{ℕ}
+use mathlib.Core.List.{List, [], _∷_}
+use Rattle.directory.specs.Answer.{Answer, grant, refuse}
+use Rattle.directory.specs.Search.{must}
+use Rattle.directory.specs.Slots.{contentAt}
+use Rattle.records.specs.Limits.{number-type-tag, RECORD}
+use Rattle.records.specs.Layout.{Layout, end, number, read, pack}
+use Rattle.records.specs.Reading.{recordOf, exactly}
+use Rattle.records.specs.declared.number_type.NumberType.{NumberType}
+use Rattle.records.specs.declared.number_type.Answered.{Answered}
+use Rattle.records.specs.declared.number_type.Answered.the-variants.{Values, Refused}
+
+-- version, type, width, class: a byte each, any values
+abbrev pub numberType : Layout NumberType
+numberType =
+    number 1 (λ version. number 1 (λ code. number 1 (λ width. number 1 (λ class. end (λ at. record { version = version; code = code; width = width; class = class })))))
+
+abbrev pub numberTypeValues : NumberType → List ℕ
+numberTypeValues x = x .version ∷ x .code ∷ x .width ∷ x .class ∷ []
+
+abbrev pub numberTypeNumbers : Answered → Answer
+numberTypeNumbers (Values x) = grant (numberTypeValues x)
+numberTypeNumbers (Refused r) = refuse 4 (r .number) (r .place)
+
+-- exactly 4 bytes
+unfoldable pub numberTypeFault : List ℕ → ℕ
+numberTypeFault e = must (exactly numberType e) RECORD 0
+
+unfoldable pub numberTypeOf : List ℕ → ℕ → Answer
+numberTypeOf s ref =
+    recordOf 4 s number-type-tag ref numberTypeFault (λ p. grant (numberTypeValues (read numberType (contentAt s p) 0)))
+
+unfoldable pub numberTypeBytes : NumberType → List ℕ
+numberTypeBytes x = pack numberType (numberTypeValues x) 0

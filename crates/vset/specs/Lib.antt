@@ -1,0 +1,9 @@
+pub mod Limits
+pub mod Columns
+pub mod Tails
+pub mod Groups
+pub mod Types
+pub mod Heads
+pub mod Values
+pub mod Listings
+pub mod Steps

@@ -1,0 +1,75 @@
+-- What the functions behind the calls take and leave. Assumes nothing.
+use Prim.Native.Nat.{ℕ, zero, suc, _+_, _*_, _<_}
+use mathlib.Core.Path.{_≡_}
+use mathlib.Core.List.{List, [], _∷_, _++_}
+use mathlib.Core.Bool.{Bool, _&&_}
+use lib.ListN.{length, take, drop}
+use lib.Dec.{leb, eqb}
+use Rattle.wire.specs.Numbers.{be, bytes, put}
+use Rattle.directory.specs.Limits.{ABSENT}
+use Rattle.directory.specs.Search.{must, Hit, hit, miss}
+use Rattle.directory.specs.Slots.{sizeAt, contentAt}
+use Rattle.storage.specs.Elements.{startAt, plainFault}
+use Rattle.storage.specs.declared.view.Located.{Located}
+use Rattle.storage.specs.declared.view.Located.the-variants as located
+use Rattle.records.specs.Limits.{RECORD}
+use Rattle.vset.specs.Limits.{TYPE}
+use Rattle.vset.specs.Types.{widthOf}
+use Rattle.vset.specs.Groups.{groupFault}
+use Rattle.vset.specs.Listings.{Listing}
+use Rattle.vset.specs.declared.field.Numbers.{Numbers}
+use Rattle.vset.specs.declared.head.Judged.{Judged}
+use Rattle.vset.specs.declared.listing.Walked.{Walked}
+
+-- the numbers of a field have 16 bits
+pub record Narrow (f : Numbers) : Type 0 where
+  pub code : f .code < 65536
+  pub size : f .size < 65536
+  pub offset : f .offset < 65536
+  pub order : f .order < 65536
+
+-- one field more is judged
+abbrev pub judge : Judged → Numbers → Judged
+judge j f =
+    record {
+      orders = j .orders && leb 1 (f .order);
+      types = j .types && leb 1 (widthOf (f .code));
+      sizes = j .sizes && (eqb (f .size) (f .order * widthOf (f .code)) && eqb (f .offset) (j .sum));
+      sum = j .sum + f .size;
+    }
+
+unfoldable pub judgeAll : Judged → List Numbers → Judged
+judgeAll j [] = j
+judgeAll j (f ∷ fs) = judgeAll (judge j f) fs
+
+unfoldable pub verdict : Judged → ℕ → ℕ
+verdict j record-size = must (j .orders) RECORD (must (j .types) TYPE (must (j .sizes && eqb record-size (j .sum)) RECORD 0))
+
+-- where so many names end
+unfoldable pub namesEnd : List ℕ → ℕ → ℕ → ℕ
+namesEnd e zero at = at
+namesEnd e (suc n) at = namesEnd e n (at + 2 + be 2 e at)
+
+-- the names, each with its length before it
+unfoldable pub namesBytes : List ℕ → List ℕ → List ℕ
+namesBytes [] all = []
+namesBytes (n ∷ ns) all = bytes 2 n ++ (take n all ++ namesBytes ns (drop n all))
+
+-- a walk over the members of a group, into a table from a place on
+pub record Walks (l : Listing) (at : ℕ) (table after : List ℕ) (r : Walked) : Type 0 where
+  pub pairs : 2 * r .pairs ≡ length (l .pairs)
+  pub number : r .number ≡ l .number
+  pub place : r .place ≡ l .place
+  pub leaves : after ≡ put table at (l .pairs)
+
+-- the group at what a lookup found, or its first fault
+unfoldable pub groupAt : List ℕ → Hit → Located
+groupAt s miss = located.Refused (record { number = ABSENT; place = 0 })
+groupAt s (hit q) =
+    elim (plainFault s q) [
+      | suc number ↦ located.Refused (record { number = suc number; place = q })
+      | zero ↦ elim (groupFault (contentAt s q)) [
+        | zero ↦ located.Plain q (startAt s q) (sizeAt s q)
+        | suc number ↦ located.Refused (record { number = suc number; place = q })
+      ]
+    ]

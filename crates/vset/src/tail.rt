@@ -1,0 +1,87 @@
+// The fields that a Vgroup and a Vdata head end in.
+use super::format::VERSION;
+use records::format::MOST_COUNT;
+use records::refusals::RECORD;
+ghost use mathlib.Core.Path.{_≡_};
+ghost use Prim.Native.Nat.{_+_, _≤_};
+ghost use lib.ListN.{length};
+ghost use Rattle.wire.specs.Numbers.{put};
+ghost use Rattle.records.specs.Layout as Layout;
+ghost use Rattle.vset.specs.Tails as Tails;
+
+// Where name and class stand in the record and how long they are, the last numbers, and where the record ends.
+pub struct Tail {
+    pub name: usize,
+    pub name_length: usize,
+    pub class: usize,
+    pub class_length: usize,
+    pub extension_tag: usize,
+    pub extension_ref: usize,
+    pub version: usize,
+    pub more: usize,
+    pub end: usize,
+}
+
+// The numbers after name and class.
+pub struct Ending {
+    pub extension_tag: u16,
+    pub extension_ref: u16,
+    pub version: u16,
+    pub more: u16,
+}
+
+// Reads the tail that starts at a place of a record.
+pub(crate) fn parse(part: &[u8], at: usize) -> Tail
+    requires { ⌜ at ≤ 8589934592 ⌝ }
+    ensures { λ r. ⌜ r ≡ Layout.read (Tails.tail (λ t. t)) (now (part .entry)) at ⌝ }
+{
+    let name_length = wire::read16(part, at);
+    let name = at + 2;
+    let class_length = wire::read16(part, name + name_length);
+    let class = name + name_length + 2;
+    let last = class + class_length;
+    Tail {
+        name,
+        name_length,
+        class,
+        class_length,
+        extension_tag: wire::read16(part, last),
+        extension_ref: wire::read16(part, last + 2),
+        version: wire::read16(part, last + 4),
+        more: wire::read16(part, last + 6),
+        end: last + 8,
+    }
+}
+
+// The number of the rule that a name and a class of so many bytes and a version break, 0 where they break none.
+pub(crate) fn pack_fault(name: usize, class: usize, version: usize) -> usize
+    ensures { λ r. ⌜ r ≡ Tails.tailPackFault name class version 0 ⌝ }
+{
+    if MOST_COUNT < name {
+        return RECORD;
+    }
+    if MOST_COUNT < class {
+        return RECORD;
+    }
+    if version != VERSION {
+        return RECORD;
+    }
+    0
+}
+
+// Lays a tail from a place of a buffer on.
+pub(crate) fn lay(out: &mut [u8], at: usize, name: &[u8], class: &[u8], x: Ending)
+    requires { ⌜ at + (12 + length (now name) + length (now class)) ≤ length (now out) ⌝ }
+    ensures { λ _. ⌜ now (out .exit) ≡ put (now (out .entry)) at (Layout.pack (Tails.tail (λ t. t)) (Tails.tailNumbers (now (name .entry)) (now (class .entry)) x) at) ⌝ }
+{
+    wire::write16(out, at, name.len());
+    wire::write_bytes(out, at + 2, name);
+    let second = at + 2 + name.len();
+    wire::write16(out, second, class.len());
+    wire::write_bytes(out, second + 2, class);
+    let last = second + 2 + class.len();
+    wire::write16(out, last, x.extension_tag as usize);
+    wire::write16(out, last + 2, x.extension_ref as usize);
+    wire::write16(out, last + 4, x.version as usize);
+    wire::write16(out, last + 6, x.more as usize);
+}
