@@ -223,9 +223,9 @@ fn edit_answer(edited: Edited) -> EditAnswer
             place: 0,
             length: length as u64,
         },
-        Edited::Refused(r) => EditAnswer {
-            number: r.number as u64,
-            place: r.place as u64,
+        Edited::Refused(refusal) => EditAnswer {
+            number: refusal.number as u64,
+            place: refusal.place as u64,
             length: 0,
         },
     }

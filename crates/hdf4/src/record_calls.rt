@@ -63,9 +63,9 @@ pub(crate) fn pack_answer(packed: Packed) -> PackAnswer
             place: 0,
             length: n as u64,
         },
-        Packed::Refused(r) => PackAnswer {
-            number: r.number as u64,
-            place: r.place as u64,
+        Packed::Refused(refusal) => PackAnswer {
+            number: refusal.number as u64,
+            place: refusal.place as u64,
             length: 0,
         },
     }

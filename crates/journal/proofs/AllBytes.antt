@@ -3,8 +3,8 @@ use Prim.Native.Nat.{ℕ, zero, suc, _+_, _/_, _%_, _<_}
 use mathlib.Core.List.{List, [], _∷_, _++_}
 use native.Mathlib.Omega.{arith}
 use lib.ListN.{length, take, drop, set, replicate}
-use lib.Seq.{getD-drop}
 use Rattle.wire.specs.Numbers.{bytes, put, part, Bytes}
+use Rattle.wire.proofs.Numbers.{bytes-part}
 use Rattle.directory.specs.Limits.{free-tag}
 use Rattle.journal.specs.Trailer.{trailer, previousOf, closing}
 use Rattle.journal.specs.Edit.{slotBytes, freeSlot, freeSlots, newBlock, block-slots, dataOffset, dataSlot, slotEdit, blockEdit}
@@ -21,19 +21,6 @@ bytes-cons x s b h (suc i) = h i
 pub bytes-append : (s t : List ℕ) → Bytes s → Bytes t → Bytes (s ++ t)
 bytes-append [] t h g = g
 bytes-append (x ∷ s) t h g = bytes-cons x (s ++ t) (h 0) (bytes-append s t (λ i. h (suc i)) g)
-
-pub bytes-take : (n : ℕ) (s : List ℕ) → Bytes s → Bytes (take n s)
-bytes-take zero [] h = h
-bytes-take zero (x ∷ s) h = bytes-nil
-bytes-take (suc n) [] h = h
-bytes-take (suc n) (x ∷ s) h = bytes-cons x (take n s) (h 0) (bytes-take n s (λ i. h (suc i)))
-
-pub bytes-drop : (n : ℕ) (s : List ℕ) → Bytes s → Bytes (drop n s)
-bytes-drop n s h i = rw getD-drop (h (n + i))
-
-pub bytes-part : (s : List ℕ) (at k : ℕ) → Bytes s → Bytes (part s at k)
-unfolding part
-bytes-part s at k h = bytes-take k (drop at s) (bytes-drop at s h)
 
 bytes-set : (s : List ℕ) (at v : ℕ) → v < 256 → Bytes s → Bytes (set s at v)
 bytes-set [] at v b h = h

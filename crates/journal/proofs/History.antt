@@ -7,7 +7,7 @@ use lib.ListN.{length, take, drop, length-append, length-drop}
 use lib.Seq.{length-take-le, take-append-seam}
 use borrow.Author.Tests.{le-leb}
 use Rattle.wire.specs.Numbers.{Bytes}
-use Rattle.wire.proofs.Numbers.{length-put}
+use Rattle.wire.proofs.Numbers.{length-put, bytes-take, bytes-drop, bytes-part}
 use Rattle.directory.specs.Answer.{Answer}
 use Rattle.directory.specs.Opening.{openOf}
 use Rattle.journal.specs.Outcome.{Outcome, granted, refused, outcomeAnswer}
@@ -15,7 +15,7 @@ use Rattle.journal.specs.Trailer.{trailer-size}
 use Rattle.journal.specs.Undo.{placeField, alteredField, oldField, undoOf}
 use Rattle.journal.specs.Buffer.{imageIn, addIn, replaceInBuffer, removeIn, undoIn, laidOver, putBack}
 use Rattle.journal.specs.History.{Edit, add, replace, remove, Call, edit, undo, Typed, AllTyped, History, started, edited, below, judged, pushed, popped, historyAfter, historyAfterAll, historyAnswers, State, editOutcome, outcome, sizeAfter, stateAfter, stateAfterAll, answers, Agrees}
-use Rattle.journal.proofs.AllBytes.{bytes-append, bytes-take, bytes-drop, bytes-part, bytes-put}
+use Rattle.journal.proofs.AllBytes.{bytes-append, bytes-put}
 use Rattle.journal.proofs.Undoing.{undone, undone-length, undone-front}
 use Rattle.journal.proofs.Edits.{undo-of-edit}
 

@@ -7,7 +7,7 @@ use lib.ListN.{length, take, drop, replicate, length-append}
 use lib.Seq.{length-take-le, take-add, drop-drop}
 use borrow.Author.Tests.{le-leb, lt-leb}
 use Rattle.wire.specs.Numbers.{be, bytes, put, part, Bytes}
-use Rattle.wire.proofs.Numbers.{length-bytes, length-put, put-put, put-split, put-append, bytes-be}
+use Rattle.wire.proofs.Numbers.{length-bytes, length-put, put-put, put-split, put-append, bytes-be, bytes-take}
 use Rattle.directory.specs.Limits.{most-bytes}
 use Rattle.directory.specs.declared.Refusal.{Refusal}
 use Rattle.journal.specs.Outcome.{Outcome, granted, refused, outcomeAnswer, editedNumbers}
@@ -17,7 +17,6 @@ use Rattle.journal.specs.Change.{changeAt, changeBytes, pastFirst}
 use Rattle.journal.specs.Buffer.{imageIn, laidOver, Does}
 use Rattle.journal.specs.declared.Edited.{Edited}
 use Rattle.journal.specs.declared.Edited.the-variants.{Granted, Refused}
-use Rattle.journal.proofs.AllBytes.{bytes-take}
 use Rattle.journal.proofs.Runs.{length-slot, length-block, length-change}
 
 -- ---- What a call does, from its outcome

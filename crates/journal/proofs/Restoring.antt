@@ -10,7 +10,7 @@ use lib.Seq.{length-take-le, take-append-le, take-all, getD-take}
 use lib.Dec.{leb, eqb}
 use borrow.Author.Tests.{eqb-true, leb-true, eq-eqb, ne-eqb}
 use Rattle.wire.specs.Numbers.{be, bytes, put, part, Bytes}
-use Rattle.wire.proofs.Numbers.{length-put, put-append, bytes-be}
+use Rattle.wire.proofs.Numbers.{length-put, put-append, bytes-be, bytes-take}
 use Rattle.directory.specs.Limits.{most-bytes}
 use Rattle.directory.specs.Answer.{grant}
 use Rattle.directory.specs.Search.{any}
@@ -31,7 +31,6 @@ use Rattle.journal.specs.Restore.{Restorable}
 use Rattle.journal.specs.declared.change.Change.{Change}
 use Rattle.journal.specs.declared.Edited.the-variants.{Granted, Refused}
 use Rattle.journal.proofs.Parts.{length-part, part-same, put-before, put-after, put-back}
-use Rattle.journal.proofs.AllBytes.{bytes-take}
 use Rattle.journal.proofs.Outcomes.{opened-goes}
 use Rattle.journal.proofs.Undoing.{known-size}
 use Rattle.journal.proofs.Judged.{carried-long}

@@ -22,18 +22,6 @@ pub part-whole : (e : List ℕ) → part e 0 (length e) ≡ e
 unfolding part
 part-whole e = take-length e
 
--- a part of bytes is bytes
-take-bytes : (n : ℕ) (s : List ℕ) → Bytes s → Bytes (take n s)
-take-bytes zero [] b i = b i
-take-bytes zero (x ∷ s) b i = omega arith
-take-bytes (suc n) [] b i = b i
-take-bytes (suc n) (x ∷ s) b zero = b 0
-take-bytes (suc n) (x ∷ s) b (suc i) = take-bytes n s (λ j. b (suc j)) i
-
-pub part-bytes : (s : List ℕ) (at n : ℕ) → Bytes s → Bytes (part s at n)
-unfolding part
-part-bytes s at n b = take-bytes n (drop at s) (λ i. rw getD-drop (b (at + i)))
-
 -- ---- Runs of numbers
 
 pub length-numbersAt : (width count : ℕ) (e : List ℕ) (at : ℕ) → length (numbersAt width count e at) ≡ count

@@ -6,6 +6,7 @@ use mathlib.Core.List.{List}
 use mathlib.Core.Bool.{Bool, true, false}
 use lib.ListN.{length, take, drop}
 use Rattle.wire.specs.Numbers.{part, Bytes}
+use Rattle.wire.proofs.Numbers.{bytes-part}
 use Rattle.directory.specs.Limits.{SMALL}
 use Rattle.directory.specs.Answer.{Answer, refuse}
 use Rattle.directory.specs.Search.{hit}
@@ -24,7 +25,7 @@ use Rattle.storage.proofs.Elements.{judged-passes, judged-stops, locate-plain, 
 use Rattle.storage.proofs.Plain.{FoundPlain, located-found, reads-on, reads-refused}
 use Rattle.records.specs.Layout.{Layout, extent, numbers, pack}
 use Rattle.records.specs.Reading.{recordOf, inRoom, recordBytes}
-use Rattle.records.proofs.Layouts.{part-bytes, pack-whole}
+use Rattle.records.proofs.Layouts.{pack-whole}
 
 -- ---- The element
 
@@ -108,7 +109,7 @@ content-passes k s tag ref fault answer p opens found plain sound =
 pub content-packs : {A : Type 0} (layout : Layout A) (s : List ℕ) (tag ref p o n : ℕ) → FoundPlain s tag ref p o n → Bytes s
     → extent layout (contentAt s p) 0 ≡ length (contentAt s p) → pack layout (numbers layout (contentAt s p) 0) 0 ≡ recordBytes s tag ref
 content-packs layout s tag ref p o n f b h =
-    pack-whole layout (contentAt s p) (rw (← f .content) (part-bytes s o n b)) h ∙ sym (f .viewed)
+    pack-whole layout (contentAt s p) (rw (← f .content) (bytes-part s o n b)) h ∙ sym (f .viewed)
 
 -- ---- What is lent
 

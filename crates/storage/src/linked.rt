@@ -12,7 +12,7 @@ use super::view::Located;
 use directory::Refusal;
 use directory::refusals::SMALL;
 ghost use mathlib.Core.Path.{_≡_};
-ghost use Prim.Native.Nat.{_-_, _≤_, min};
+ghost use Prim.Native.Nat.{_-_, _≤_};
 ghost use lib.Dec.{eqb};
 ghost use lib.ListN.{length, take};
 ghost use Rattle.directory.specs.Search.{any};
@@ -100,23 +100,14 @@ fn find_linked(image: &[u8], blocks: usize, reference: u16) -> Linked
     }
 }
 
-fn least(a: usize, b: usize) -> usize
-    ensures { λ r. ⌜ r ≡ min a b ⌝ }
-{
-    if a < b {
-        return a;
-    }
-    b
-}
-
 // How many bytes the block of an index gives where so many are left.
 fn share_of(d: Description, index: usize, left: usize) -> usize
     ensures { λ r. ⌜ r ≡ share d index left ⌝ }
 {
     if index == 0 {
-        return least(d.first, left);
+        return wire::least(d.first, left);
     }
-    least(d.block, left)
+    wire::least(d.block, left)
 }
 
 // Whether one of the first tables has a reference.

@@ -8,6 +8,7 @@ use lib.Seq.{take-at, drop-at}
 use lib.Dec.{leb}
 use borrow.Author.Tests.{le-leb, ne-eqb}
 use Rattle.wire.specs.Numbers.{be, part, Bytes}
+use Rattle.wire.proofs.Numbers.{bytes-part}
 use Rattle.directory.specs.Answer.{grant}
 use Rattle.directory.specs.Search.{Hit, hit, miss}
 use Rattle.directory.specs.Slots.{contentAt}
@@ -17,7 +18,7 @@ use Rattle.storage.specs.Elements.{startAt, plainFault}
 use Rattle.storage.specs.View.{bytesOf}
 use Rattle.records.specs.Layout.{read, extent, numbers, pack, given, numbersAt, Fits}
 use Rattle.records.specs.Reading.{recordBytes, inRoom}
-use Rattle.records.proofs.Layouts.{part-bytes, length-numbersAt, pack-numbers, PackedAt, packed-at}
+use Rattle.records.proofs.Layouts.{length-numbersAt, pack-numbers, PackedAt, packed-at}
 use Rattle.records.proofs.Readings.{found-plain, record-granted, record-passes, inRoom-enough}
 use Rattle.vset.specs.Limits.{group-tag, most-nested}
 use Rattle.vset.specs.Columns.{rows2, every}
@@ -78,7 +79,7 @@ pub group-packs : (s : List ℕ) (ref room : ℕ) → Bytes s → groupOf s ref 
 unfolding groupOf bytesOf
 group-packs s ref room b granted =
     let g = record-granted 9 s group-tag ref groupFault _ granted in
-    pack-own (recordBytes s group-tag ref) (ap groupFault (g .1 .found .viewed) ∙ g .1 .sound) (part-bytes s _ _ b)
+    pack-own (recordBytes s group-tag ref) (ap groupFault (g .1 .found .viewed) ∙ g .1 .sound) (bytes-part s _ _ b)
 
 -- ---- Reading what was packed
 

@@ -10,6 +10,7 @@ use lib.Seq.{take-at, drop-at, length-take-le, take-take, drop-drop}
 use lib.Dec.{leb}
 use borrow.Author.Tests.{le-leb, leb-true, eq-eqb}
 use Rattle.wire.specs.Numbers.{be, part, Bytes}
+use Rattle.wire.proofs.Numbers.{bytes-part, bytes-take, bytes-drop}
 use Rattle.directory.specs.Answer.{grant}
 use Rattle.directory.specs.Search.{hit}
 use Rattle.directory.specs.Slots.{sizeAt, contentAt}
@@ -24,7 +25,7 @@ use Rattle.storage.proofs.Views.{view-plain}
 use Rattle.records.specs.Limits.{RECORD}
 use Rattle.records.specs.Layout.{Layout, read, extent, numbers, pack, given, numbersAt, Fits}
 use Rattle.records.specs.Reading.{recordBytes, inRoom}
-use Rattle.records.proofs.Layouts.{part-bytes, length-numbersAt, numbersAt-part, pack-numbers, PackedAt, packed-at}
+use Rattle.records.proofs.Layouts.{length-numbersAt, numbersAt-part, pack-numbers, PackedAt, packed-at}
 use Rattle.records.proofs.Readings.{found-plain, record-granted, content-passes, inRoom-enough}
 use Rattle.vset.specs.Limits.{head-tag, most-interlace, most-fields, only-version}
 use Rattle.vset.specs.Columns.{rows4, every}
@@ -38,7 +39,7 @@ use Rattle.vset.specs.declared.head.Start.{Start}
 use Rattle.vset.proofs.Rows.{length-every, every-drop, every-small, Columns4, rows4-columns, rows4-every}
 use Rattle.vset.proofs.Tailings.{Narrow, tailIn, endingOf, tailGiven, numbers-tail, given-tail, tail-fits, tail-parts}
 use Rattle.vset.proofs.Headings.{names-low, placed, head-is, head-ends}
-use Rattle.vset.proofs.HeadPacks.{bytes-take, bytes-drop, length-rest, namesAfter, after-is, startedHead, headNumbersOf, column-of, PackSound, pack-passed}
+use Rattle.vset.proofs.HeadPacks.{length-rest, namesAfter, after-is, startedHead, headNumbersOf, column-of, PackSound, pack-passed}
 
 -- ---- Lists
 
@@ -309,7 +310,7 @@ pub head-packs : (s : List ℕ) (ref a b : ℕ) → Bytes s → headOf s ref a b
 unfolding headOf bytesOf
 head-packs s ref a b bytes granted =
     let g = record-granted 12 s head-tag ref headFault _ granted in
-    pack-own (recordBytes s head-tag ref) (ap headFault (g .1 .found .viewed) ∙ g .1 .sound) (part-bytes s _ _ bytes)
+    pack-own (recordBytes s head-tag ref) (ap headFault (g .1 .found .viewed) ∙ g .1 .sound) (bytes-part s _ _ bytes)
 
 -- ---- Reading what was packed
 

@@ -9,11 +9,11 @@ use lib.Seq.{take-at, drop-at, drop-cons, drop-drop, length-take-le, getD-drop}
 use lib.Dec.{leb, eqb}
 use borrow.Author.Tests.{leb-true, le-leb, lt-leb, eqb-true, eq-eqb, ne-eqb}
 use Rattle.wire.specs.Numbers.{bytes, put, part, Bytes}
-use Rattle.wire.proofs.Numbers.{length-bytes, length-put}
+use Rattle.wire.proofs.Numbers.{length-bytes, length-put, bytes-part, bytes-take, bytes-drop}
 use Rattle.directory.proofs.Search.{must-holds, must-fails, passed}
 use Rattle.records.specs.Limits.{RECORD}
 use Rattle.records.specs.Layout.{Layout, pack, bytesEach}
-use Rattle.records.proofs.Layouts.{length-bytesEach, part-bytes}
+use Rattle.records.proofs.Layouts.{length-bytesEach}
 use Rattle.vset.specs.Limits.{most-interlace, most-fields}
 use Rattle.vset.specs.Columns.{every}
 use Rattle.vset.specs.Tails.{tail, tailNumbers, tailPackFault}
@@ -160,13 +160,6 @@ module _ (b : Start) (rows lengths : List ℕ) (all name class version : ℕ) wh
       }
 
 -- ---- The bytes of the names
-
-pub bytes-take : (n : ℕ) (s : List ℕ) → Bytes s → Bytes (take n s)
-unfolding part
-bytes-take n s b = part-bytes s 0 n b
-
-pub bytes-drop : (n : ℕ) (s : List ℕ) → Bytes s → Bytes (drop n s)
-bytes-drop n s b i = rw getD-drop (b (n + i))
 
 -- where the names end
 unfoldable pub namesAfter : ℕ → List ℕ → ℕ

@@ -25,6 +25,7 @@ use Rattle.vset.specs.Groups.{group, groupFault, groupMembers}
 use Rattle.vset.specs.Listings.{Listing, stopped, pair, andThen, membersFrom, groupFound, listFrom}
 use Rattle.vset.specs.Steps.{Walks}
 use Rattle.vset.specs.declared.listing.Walked.{Walked}
+use Rattle.vset.proofs.Groupings.{groupIn, membersAfter, members-next, members-none, members-all}
 
 -- ---- The groups nested in one
 
@@ -100,32 +101,6 @@ fair-nested (suc d) s p ref left = fair-found s (listFrom d s) (fair-list d s) (
 pub listed-few : (d : ℕ) (s : List ℕ) (p room : ℕ) → length (listFrom d s p room .pairs) ≤ 2 * room
 listed-few d s p room = let f = fair-list d s p room in omega (arith, f .1, f .2)
 
--- ---- The members still to come
-
-abbrev pub membersAfter : List ℕ → ℕ → ℕ → List ℕ
-membersAfter e n i = rows2 (numbersAt 2 (n - i) e (2 + 2 * i)) (numbersAt 2 (n - i) e (2 + 2 * n + 2 * i))
-
-members-all : (e : List ℕ) → groupMembers e ≡ membersAfter e (be 2 e 0) 0
-unfolding groupMembers read
-members-all e =
-    let n = be 2 e 0 in
-    let a : 2 + 2 * n ≡ 2 + 2 * n + 2 * 0 = omega arith in
-    let k : n ≡ n - 0 = omega arith in
-    ap (λ at. rows2 (numbersAt 2 n e 2) (numbersAt 2 n e at)) a
-    ∙ ap (λ m. rows2 (numbersAt 2 m e 2) (numbersAt 2 m e (2 + 2 * n + 2 * 0))) k
-
-after-last : (e : List ℕ) (n : ℕ) → membersAfter e n n ≡ []
-unfolding numbersAt rows2
-after-last e n = let z : n - n ≡ 0 = omega arith in ap (λ k. rows2 (numbersAt 2 k e (2 + 2 * n)) (numbersAt 2 k e (2 + 2 * n + 2 * n))) z
-
-after-next : (e : List ℕ) (n i : ℕ) → i < n → membersAfter e n i ≡ be 2 e (2 + 2 * i) ∷ be 2 e (2 + 2 * n + 2 * i) ∷ membersAfter e n (i + 1)
-unfolding numbersAt rows2
-after-next e n i h =
-    let k : n - i ≡ suc (n - (i + 1)) = omega arith in
-    let a : 2 + 2 * i + 2 ≡ 2 + 2 * (i + 1) = omega arith in
-    let b : 2 + 2 * n + 2 * i + 2 ≡ 2 + 2 * n + 2 * (i + 1) = omega arith in
-    ap (λ m. rows2 (numbersAt 2 m e (2 + 2 * i)) (numbersAt 2 m e (2 + 2 * n + 2 * i))) k ∙ rw (a, b)
-
 -- ---- The invariant
 
 -- a listing after what was listed before it
@@ -142,7 +117,7 @@ pub record Walking (s : List ℕ) (slot depth room at : ℕ) (table₀ : List �
 
 module _ (s : List ℕ) (slot depth room at : ℕ) (table₀ : List ℕ) where
   pub walk-start : (n : ℕ) → n ≡ be 2 (contentAt s slot) 0 → Walking s slot depth room at table₀ n table₀ 0 0
-  unfolding put
+  unfolding put read
   walk-start n is =
       record {
         upto = omega arith;
@@ -154,7 +129,7 @@ module _ (s : List ℕ) (slot depth room at : ℕ) (table₀ : List ℕ) where
             let k : room ≡ room - 0 = omega arith in
             list-members depth s slot room
             ∙ ap (membersFrom (nestedBy depth s slot) (groupMembers (contentAt s slot))) k
-            ∙ ap (λ ms. membersFrom (nestedBy depth s slot) ms (room - 0)) (members-all (contentAt s slot) ∙ ap (λ k. membersAfter (contentAt s slot) k 0) (sym is));
+            ∙ ap (λ ms. membersFrom (nestedBy depth s slot) ms (room - 0)) (sym (members-all (contentAt s slot)) ∙ ap (λ k. membersAfter (contentAt s slot) k 0) (sym is));
       }
 
 -- two listings of which the first was not refused
@@ -187,7 +162,7 @@ module _ (s : List ℕ) (slot depth room at : ℕ) (table₀ : List ℕ) (n : �
   walk-ends h =
       stops table₀ at (w .done) 0 0 pairs _ table
       (w .whole ∙ ap (λ k. joined (w .done) (lists (membersAfter e n k) (room - pairs))) h
-      ∙ ap (λ ms. joined (w .done) (lists ms (room - pairs))) (after-last e n))
+      ∙ ap (λ ms. joined (w .done) (lists ms (room - pairs))) (members-none e n n (omega arith)))
       (sym (w .many)) (w .leaves)
 
   module _ (h : i < n) where
@@ -206,7 +181,7 @@ module _ (s : List ℕ) (slot depth room at : ℕ) (table₀ : List ℕ) (n : �
     walk-full q =
         let z : room - pairs ≡ 0 = omega arith in
         stops table₀ at (w .done) SMALL 0 pairs _ table
-        (w .whole ∙ ap (λ ms. joined (w .done) (lists ms (room - pairs))) (after-next e n i h)
+        (w .whole ∙ ap (λ ms. joined (w .done) (lists ms (room - pairs))) (members-next e n i h)
         ∙ ap (λ k. joined (w .done) (lists (tag ∷ ref ∷ rest) k)) z)
         (sym (w .many)) (w .leaves)
 
@@ -243,7 +218,7 @@ module _ (s : List ℕ) (slot depth room at : ℕ) (table₀ : List ℕ) (n : �
       next : listFrom depth s slot room ≡ joined (w .done) (lists (tag ∷ ref ∷ rest) (suc left))
       next =
           let k : room - pairs ≡ suc left = omega arith in
-          w .whole ∙ ap (λ ms. joined (w .done) (lists ms (room - pairs))) (after-next e n i h)
+          w .whole ∙ ap (λ ms. joined (w .done) (lists ms (room - pairs))) (members-next e n i h)
           ∙ ap (λ k. joined (w .done) (lists (tag ∷ ref ∷ rest) k)) k
 
       moved : (x : Listing) → joined (w .done) (pair tag ref x) ≡ joined listed x

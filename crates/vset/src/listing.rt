@@ -10,7 +10,7 @@ use directory::refusals::SMALL;
 use storage::view::Located;
 ghost use mathlib.Core.Path.{_≡_};
 ghost use mathlib.Core.List.{[], _∷_};
-ghost use Prim.Native.Nat.{_+_, _*_, _≤_, _<_, min};
+ghost use Prim.Native.Nat.{_+_, _*_, _≤_, _<_};
 ghost use lib.ListN.{length};
 ghost use Rattle.directory.specs.Lookup.{find};
 ghost use Rattle.directory.specs.Slots.{contentAt};
@@ -179,15 +179,6 @@ fn nested(
     )
 }
 
-fn least(a: usize, b: usize) -> usize
-    ensures { λ r. ⌜ r ≡ min a b ⌝ }
-{
-    if a < b {
-        return a;
-    }
-    b
-}
-
 // Lists the members of the group of a reference, and those of the groups among them, to a lent table. All is judged first.
 pub fn list(image: &[u8], reference: u16, table: &mut [u16]) -> Listed
     ensures answer { λ r. ⌜ Listings.listedNumbers r ≡ Listings.listingOf (now (image .entry)) reference (length (now (table .entry))) ⌝ }
@@ -207,7 +198,7 @@ pub fn list(image: &[u8], reference: u16, table: &mut [u16]) -> Listed
         return Listed::Refused(storage::view::refusal_of(located));
     };
     let part = &image[offset..offset + length];
-    let room = least(table.len() / 2, MOST_PAIRS);
+    let room = wire::least(table.len() / 2, MOST_PAIRS);
     let judged = walk(
         image,
         counts.blocks,

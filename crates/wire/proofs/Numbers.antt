@@ -65,6 +65,22 @@ be-small (suc k) s at h =
     let i : be k s at < 256 ^ k = be-small k s at h in
     rw pow-suc (omega (arith, h (at + k)))
 
+-- ---- Parts of bytes are bytes
+
+pub bytes-take : (n : ℕ) (s : List ℕ) → Bytes s → Bytes (take n s)
+bytes-take zero [] b i = b i
+bytes-take zero (x ∷ s) b i = omega arith
+bytes-take (suc n) [] b i = b i
+bytes-take (suc n) (x ∷ s) b zero = b 0
+bytes-take (suc n) (x ∷ s) b (suc i) = bytes-take n s (λ j. b (suc j)) i
+
+pub bytes-drop : (n : ℕ) (s : List ℕ) → Bytes s → Bytes (drop n s)
+bytes-drop n s b i = rw getD-drop (b (n + i))
+
+pub bytes-part : (s : List ℕ) (at k : ℕ) → Bytes s → Bytes (part s at k)
+unfolding part
+bytes-part s at k b = bytes-take k (drop at s) (bytes-drop at s b)
+
 -- ---- Bytes of a number
 
 pub length-bytes : (k x : ℕ) → length (bytes k x) ≡ k

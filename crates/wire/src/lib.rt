@@ -107,7 +107,8 @@ pub fn write64(s: &mut [u8], at: usize, x: usize)
     write32(s, at + 4, x);
 }
 
-fn least(a: usize, b: usize) -> usize
+// The lesser of two numbers.
+pub fn least(a: usize, b: usize) -> usize
     ensures { λ r. ⌜ r ≡ min a b ⌝ }
 {
     if a < b {

@@ -6,9 +6,8 @@ use borrow.Author.Tests.{not-true, not-false}
 use lib.ListN.{take}
 use lib.Seq.{length-take-le}
 use Rattle.wire.specs.Numbers.{be, Bytes}
-use Rattle.wire.proofs.Numbers.{be-small}
+use Rattle.wire.proofs.Numbers.{be-small, bytes-take}
 use Rattle.directory.proofs.Rules
-use Rattle.journal.proofs.AllBytes.{bytes-take}
 use Rattle.journal.proofs.Judged
 use Rattle.journal.proofs.Restoring
 use borrow.Author.Needs.{needs}
