@@ -2,6 +2,8 @@
 mod chain;
 mod cursor;
 pub mod format;
+mod gap;
+mod highest;
 pub mod listing;
 pub mod places;
 pub mod refusals;
@@ -12,6 +14,8 @@ use cursor::Cursor;
 use format::FREE;
 use format::MAGIC;
 use format::MOST_BYTES;
+use gap::Gap;
+use highest::Highest;
 use refusals::ABSENT;
 use refusals::NOT_HDF;
 use refusals::TOO_LONG;
@@ -61,12 +65,15 @@ fn is_hdf(image: &[u8]) -> bool
     wire::read32(image, 0) == MAGIC
 }
 
-// The rules of all slots, in chain order, and how many are live.
+// The rules of all slots, in chain order, and how many are live. Earlier slots and blocks that cannot matter are not searched.
 fn check_slots(image: &[u8], places: &[usize; 256], blocks: usize, slots: usize) -> Opened
     requires { ⌜ Blocks (now image) (now places) blocks × Follows (now image) (take blocks (now places)) blocks slots ⌝ }
     ensures { λ r. ⌜ openedNumbers r ≡ slotsFrom (now (image .entry)) (take blocks (now (places .entry))) [] (slotPlaces (now (image .entry)) (take blocks (now (places .entry)))) 0 ⌝ }
 {
-    let mut at = Cursor::start(image, blocks);
+    let all = Highest::start(image, blocks);
+    let mut highest = all;
+    let mut at = all.at;
+    let mut gap = Gap { low: 4, high: 0 };
     let mut passed = 0;
     let mut live = 0;
     'slots: loop {
@@ -79,12 +86,16 @@ fn check_slots(image: &[u8], places: &[usize; 256], blocks: usize, slots: usize)
         }
         let p = at.place;
         if wire::read16(image, p) != FREE {
-            let number = slot::element_fault(image, places, blocks, p);
+            let judged = slot::element_fault(image, places, blocks, gap, p);
+            let number = judged.rule;
             if number != 0 {
                 break 'slots Opened::Refused(Refusal { number, place: p });
             }
-            let mut earlier = Cursor::start(image, blocks);
-            let mut i = 0;
+            gap = judged.gap;
+            highest = highest.with(image, passed, at);
+            let from = highest.search_from(image, p, all);
+            let mut earlier = from.at;
+            let mut i = from.index;
             while i < passed {
                 if slot::clashes(image, p, earlier.place) {
                     break 'slots Opened::Refused(Refusal {

@@ -4,17 +4,22 @@ use super::format::EXTENDED_FREE;
 use super::format::EXTENDED_LAST;
 use super::format::FREE;
 use super::format::LONE;
+use super::gap::Gap;
 use super::refusals::BAD_TAG;
 use super::refusals::ON_DIRECTORY;
 use super::refusals::OUTSIDE;
 ghost use mathlib.Core.Path.{_≡_};
+ghost use mathlib.Core.Bool.{not};
 ghost use Prim.Native.Nat.{_<_, _≤_};
 ghost use lib.ListN.{take};
+ghost use Rattle.directory.specs.Limits.{ON-DIRECTORY};
+ghost use Rattle.directory.specs.Search.{must};
 ghost use Rattle.directory.specs.Blocks.{onDirectory};
 ghost use Rattle.directory.specs.Slots.{baseTag, clash, elementFault};
 ghost use Rattle.directory.specs.Lookup.{has};
 ghost use Rattle.directory.specs.Cursor.{most-place};
 ghost use Rattle.directory.specs.Places.{Blocks};
+ghost use Rattle.directory.specs.Gap.{Between};
 
 // The base tag of a tag.
 pub(crate) fn base(tag: usize) -> usize
@@ -29,55 +34,84 @@ pub(crate) fn base(tag: usize) -> usize
     tag - EXTENDED_FIRST
 }
 
-// Whether the bytes from a up to e share one with the header or one of the first blocks.
-fn on_directory(image: &[u8], places: &[usize; 256], blocks: usize, a: usize, e: usize) -> bool
-    requires { ⌜ Blocks (now image) (now places) blocks × (0 < e) ⌝ }
-    ensures { λ r. ⌜ r ≡ onDirectory (now (image .entry)) (take blocks (now (places .entry))) a e ⌝ }
+// The number of the first rule that an element breaks, 0 where it breaks none, and a gap for the next element.
+pub struct Judged {
+    pub rule: usize,
+    pub gap: Gap,
+}
+
+// Rule 9 for the bytes from a up to e: none is the header's or one of the first blocks'. Nothing is searched if they lie in the gap.
+fn directory_fault(
+    image: &[u8],
+    places: &[usize; 256],
+    blocks: usize,
+    gap: Gap,
+    a: usize,
+    e: usize,
+) -> Judged
+    requires { ⌜ Blocks (now image) (now places) blocks × Between (now image) (now places) blocks gap × (0 < e) ⌝ }
+    ensures { λ r. ⌜ (r .rule ≡ must (not (onDirectory (now (image .entry)) (take blocks (now (places .entry))) a e)) ON-DIRECTORY 0) × Between (now (image .entry)) (now (places .entry)) blocks (r .gap) ⌝ }
 {
-    if a < 4 {
-        return true;
+    if gap.low <= a {
+        if e <= gap.high {
+            return Judged { rule: 0, gap };
+        }
     }
+    let rule = ON_DIRECTORY;
+    if a < 4 {
+        return Judged { rule, gap };
+    }
+    let high = image.len();
+    let mut around = Gap { low: 4, high };
     let mut i = 0;
     while i < blocks {
         let b = places[i];
         if b < e {
-            if a < b + 6 + 12 * wire::read16(image, b) {
-                return true;
+            let end = b + 6 + 12 * wire::read16(image, b);
+            if a < end {
+                return Judged { rule, gap };
             }
+            around = around.from(end);
+        } else {
+            around = around.until(b);
         }
         i += 1;
     }
-    false
+    let gap = around;
+    Judged { rule: 0, gap }
 }
 
-// The number of the first of the rules 7, 8 and 9 that the live slot at p breaks, 0 where it breaks none.
-pub(crate) fn element_fault(image: &[u8], places: &[usize; 256], blocks: usize, p: usize) -> usize
-    requires { ⌜ Blocks (now image) (now places) blocks × (p ≤ most-place) ⌝ }
-    ensures { λ r. ⌜ r ≡ elementFault (now (image .entry)) (take blocks (now (places .entry))) p 0 ⌝ }
+// The first of the rules 7, 8 and 9 that the live slot at p breaks.
+pub(crate) fn element_fault(
+    image: &[u8],
+    places: &[usize; 256],
+    blocks: usize,
+    gap: Gap,
+    p: usize,
+) -> Judged
+    requires { ⌜ Blocks (now image) (now places) blocks × Between (now image) (now places) blocks gap × (p ≤ most-place) ⌝ }
+    ensures { λ r. ⌜ (r .rule ≡ elementFault (now (image .entry)) (take blocks (now (places .entry))) p 0) × Between (now (image .entry)) (now (places .entry)) blocks (r .gap) ⌝ }
 {
     let tag = wire::read16(image, p);
     let kind = base(tag);
     if kind == 0 {
-        return BAD_TAG;
+        return Judged { rule: BAD_TAG, gap };
     }
     if tag == EXTENDED_FREE {
-        return BAD_TAG;
+        return Judged { rule: BAD_TAG, gap };
     }
     if kind == LONE {
-        return 0;
+        return Judged { rule: 0, gap };
     }
     let size = wire::read32(image, p + 8);
     if size == 0 {
-        return 0;
+        return Judged { rule: 0, gap };
     }
     let offset = wire::read32(image, p + 4);
     if image.len() < offset + size {
-        return OUTSIDE;
+        return Judged { rule: OUTSIDE, gap };
     }
-    if on_directory(image, places, blocks, offset, offset + size) {
-        return ON_DIRECTORY;
-    }
-    0
+    directory_fault(image, places, blocks, gap, offset, offset + size)
 }
 
 // Whether the slot at p clashes with the one at q, if that is live.

@@ -16,22 +16,28 @@ returns : tie.Need-returns
 returns c =
     let b = c .before in
     let is = b .before .read16 .ensures .is in
-    let kind = b .base .ensures ∙ ap baseTag is in
-    sym (Slots.fault-base _ _ _ _ (sym kind ∙ c .if1 .taken))
+    let kind = b .base .ensures ∙ ap baseTag is in (
+      sym (Slots.fault-base _ _ _ _ (sym kind ∙ c .if1 .taken)),
+      c .before .before .before .before .pre .1,
+    )
 
 returns-2 : tie.Need-returns-2
 returns-2 c =
     let b = c .before .before in
     let is = b .before .read16 .ensures .is in
-    let kind = b .base .ensures ∙ ap baseTag is in
-    sym (Slots.fault-free _ _ _ _ (sym is ∙ c .if2 .taken))
+    let kind = b .base .ensures ∙ ap baseTag is in (
+      sym (Slots.fault-free _ _ _ _ (sym is ∙ c .if2 .taken)),
+      c .before .before .before .before .before .pre .1,
+    )
 
 returns-3 : tie.Need-returns-3
 returns-3 c =
     let b = c .before .before .before in
     let is = b .before .read16 .ensures .is in
-    let kind = b .base .ensures ∙ ap baseTag is in
-    sym (Slots.fault-lone _ _ _ _ (λ h. c .before .before .if1 .left (kind ∙ h)) (λ h. c .before .if2 .left (is ∙ h)) (sym kind ∙ c .if3 .taken))
+    let kind = b .base .ensures ∙ ap baseTag is in (
+      sym (Slots.fault-lone _ _ _ _ (λ h. c .before .before .if1 .left (kind ∙ h)) (λ h. c .before .if2 .left (is ∙ h)) (sym kind ∙ c .if3 .taken)),
+      c .before .before .before .before .before .before .pre .1,
+    )
 
 add-read32 : tie.Need-add-read32
 add-read32 c = search needs
@@ -44,8 +50,10 @@ returns-4 c =
     let b = c .before .before .before .before .before in
     let is = b .before .read16 .ensures .is in
     let kind = b .base .ensures ∙ ap baseTag is in
-    let size = c .before .read32 .ensures .is in
-    sym (Slots.fault-empty _ _ _ _ (λ h. c .before .before .before .before .if1 .left (kind ∙ h)) (λ h. c .before .before .before .if2 .left (is ∙ h)) (λ h. c .before .before .if3 .left (kind ∙ h)) (sym size ∙ c .if4 .taken))
+    let size = c .before .read32 .ensures .is in (
+      sym (Slots.fault-empty _ _ _ _ (λ h. c .before .before .before .before .if1 .left (kind ∙ h)) (λ h. c .before .before .before .if2 .left (is ∙ h)) (λ h. c .before .before .if3 .left (kind ∙ h)) (sym size ∙ c .if4 .taken)),
+      c .before .before .before .before .before .before .before .before .pre .1,
+    )
 
 add-read32-2 : tie.Need-add-read32-2
 add-read32-2 c = search needs
@@ -62,32 +70,27 @@ returns-5 c =
     let is = b .before .read16 .ensures .is in
     let kind = b .base .ensures ∙ ap baseTag is in
     let size = c .before .before .before .read32 .ensures .is in
-    let offset = c .before .read322 .ensures .is in
-    sym (Slots.fault-outside _ _ _ _ (λ h. c .before .before .before .before .before .before .if1 .left (kind ∙ h)) (λ h. c .before .before .before .before .before .if2 .left (is ∙ h)) (λ h. c .before .before .before .before .if3 .left (kind ∙ h)) (λ h. c .before .before .if4 .left (size ∙ h)) (rw (size, offset) at (c .if5 .taken)))
+    let offset = c .before .read322 .ensures .is in (
+      sym (Slots.fault-outside _ _ _ _ (λ h. c .before .before .before .before .before .before .if1 .left (kind ∙ h)) (λ h. c .before .before .before .before .before .if2 .left (is ∙ h)) (λ h. c .before .before .before .before .if3 .left (kind ∙ h)) (λ h. c .before .before .if4 .left (size ∙ h)) (rw (size, offset) at (c .if5 .taken))),
+      c .before .before .before .before .before .before .before .before .before .before .pre .1,
+    )
 
-add-on-directory : tie.Need-add-on-directory
-add-on-directory c = search needs
+add-directory-fault : tie.Need-add-directory-fault
+add-directory-fault c = search needs
 
-on-directory-requires : tie.Need-on-directory-requires
-on-directory-requires c κs = search needs
+directory-fault-requires : tie.Need-directory-fault-requires
+directory-fault-requires c κs = search needs
 
 returns-6 : tie.Need-returns-6
 returns-6 c =
-    let b = c .before .before .before .before .before .before .before .before .before in
+    let b = c .before .before .before .before .before .before .before .before in
     let is = b .before .read16 .ensures .is in
     let kind = b .base .ensures ∙ ap baseTag is in
-    let size = c .before .before .before .before .before .read32 .ensures .is in
-    let offset = c .before .before .before .read322 .ensures .is in
-    sym (Slots.fault-directory _ _ _ _ (λ h. c .before .before .before .before .before .before .before .before .if1 .left (kind ∙ h)) (λ h. c .before .before .before .before .before .before .before .if2 .left (is ∙ h)) (λ h. c .before .before .before .before .before .before .if3 .left (kind ∙ h)) (λ h. c .before .before .before .before .if4 .left (size ∙ h)) (rw (size, offset) at (c .before .before .if5 .left)) (rw (size, offset) at (sym (c .before .on-directory .ensures) ∙ c .if6 .taken)))
-
-returns-7 : tie.Need-returns-7
-returns-7 c =
-    let b = c .before .before .before .before .before .before .before .before .before in
-    let is = b .before .read16 .ensures .is in
-    let kind = b .base .ensures ∙ ap baseTag is in
-    let size = c .before .before .before .before .before .read32 .ensures .is in
-    let offset = c .before .before .before .read322 .ensures .is in
-    sym (Slots.fault-none _ _ _ _ (λ h. c .before .before .before .before .before .before .before .before .if1 .left (kind ∙ h)) (λ h. c .before .before .before .before .before .before .before .if2 .left (is ∙ h)) (λ h. c .before .before .before .before .before .before .if3 .left (kind ∙ h)) (λ h. c .before .before .before .before .if4 .left (size ∙ h)) (rw (size, offset) at (c .before .before .if5 .left)) (rw (size, offset) at (sym (c .before .on-directory .ensures) ∙ c .if6 .left)))
+    let size = c .before .before .before .before .read32 .ensures .is in
+    let offset = c .before .before .read322 .ensures .is in (
+      sym (Slots.fault-directory _ _ _ _ (λ h. c .before .before .before .before .before .before .before .if1 .left (kind ∙ h)) (λ h. c .before .before .before .before .before .before .if2 .left (is ∙ h)) (λ h. c .before .before .before .before .before .if3 .left (kind ∙ h)) (λ h. c .before .before .before .if4 .left (size ∙ h)) (rw (size, offset) at (c .before .if5 .left)) _ (rw (size, offset) at (sym (c .directory-fault .ensures .0)))),
+      c .directory-fault .ensures .1,
+    )
 
 pub element-fault-spec : {M : Type 1} → statement M
 element-fault-spec =
@@ -105,7 +108,6 @@ element-fault-spec =
     read32-requires-2
     add-if5
     returns-5
-    add-on-directory
-    on-directory-requires
-    returns-6
-    returns-7)
+    add-directory-fault
+    directory-fault-requires
+    returns-6)
