@@ -1,6 +1,6 @@
 //! The commands that edit: a file is read, edited in memory and written back.
 
-use crate::{read, store};
+use crate::{read, read_with_room, store};
 use std::ffi::OsStr;
 use std::io::{self, Read};
 use std::path::Path;
@@ -33,7 +33,7 @@ fn edit<F>(path: &Path, room: usize, call: F) -> Result<String, String>
 where
     F: FnOnce(&mut [u8], usize) -> Result<usize, hdf4::Error>,
 {
-    let mut buffer = read(path)?;
+    let mut buffer = read_with_room(path, room)?;
     let length = buffer.len();
     buffer.resize(length + room, 0);
     let length = call(&mut buffer, length).map_err(|e| format!("{}: {e}", path.display()))?;

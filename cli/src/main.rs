@@ -7,8 +7,8 @@ mod vset;
 
 use std::env;
 use std::ffi::{OsStr, OsString};
-use std::fs;
-use std::io::{self, Write};
+use std::fs::File;
+use std::io::{self, ErrorKind, Read, Write};
 use std::path::Path;
 use std::process::ExitCode;
 
@@ -25,7 +25,7 @@ usage: hdf4 list FILE
   list       the elements of a file: tag, reference, offset and length of each, in the order of its directory
   read       the bytes of an element, plain or of linked blocks, to the file OUT or to standard output
   groups     the Vgroups of a file, or the one with that reference: class and name, and below them tag and reference of each
-             member, those of a Vgroup within it further to the right
+             member, those of a Vgroup within it further to the right; one that is refused is named at the end
   values     the values of a Vdata: a line of field names, then a line for each record; tabs between fields, spaces between the
              numbers of a field
   add        adds an element with the bytes of DATAFILE
@@ -37,10 +37,42 @@ TAG and REF are numbers from 0 to 65535, decimal or with 0x before them. DATAFIL
 A field of characters (types 3 and 4) is printed as text in quotes, a float in the fewest digits that give it back. In text and
 in names, bytes that are not printable ASCII are escaped, as in \\n or \\x00, and so are quotes and backslashes.
 A crash in the middle of a command leaves the old file or the new one.
+
+A refusal is a line on standard error that names the rule, its number and the place in the file, in bytes from its start, and
+changes no file:
+
+  hdf4: snow.hdf: ABSENT: there is no element with that tag and reference (number 11, place 0)
+
+The exit status is 0 if all was done, else 1.
 ";
 
+/// Why a command could not do all that it should, and what it prints all the same.
+struct Fault {
+    printed: Vec<u8>,
+    messages: Vec<String>,
+}
+
+impl From<String> for Fault {
+    fn from(message: String) -> Fault {
+        Fault { printed: Vec::new(), messages: vec![message] }
+    }
+}
+
+/// The bytes of a file, and room behind them that takes no second copy. Of a file that is too long for the library no more is
+/// read than shows it.
+fn read_with_room(path: &Path, room: usize) -> Result<Vec<u8>, String> {
+    let told = |e: io::Error| format!("{}: {e}", path.display());
+    let file = File::open(path).map_err(told)?;
+    let most = hdf4::MOST_BYTES as u64 + 1;
+    let length = file.metadata().map_err(told)?.len().min(most);
+    let mut bytes = Vec::new();
+    bytes.try_reserve_exact(length as usize + room).map_err(|e| format!("{}: {e}", path.display()))?;
+    file.take(most).read_to_end(&mut bytes).map_err(told)?;
+    Ok(bytes)
+}
+
 fn read(path: &Path) -> Result<Vec<u8>, String> {
-    fs::read(path).map_err(|e| format!("{}: {e}", path.display()))
+    read_with_room(path, 0)
 }
 
 /// The elements of a file, a line each, with the counts of its directory above them.
@@ -57,13 +89,12 @@ fn list(path: &Path) -> Result<String, String> {
 }
 
 /// What a command prints: the bytes of an element, or text.
-fn run(words: &[OsString]) -> Result<Vec<u8>, String> {
-    let command = words.first().and_then(|word| word.to_str()).unwrap_or("");
-    let words: Vec<&OsStr> = words.iter().skip(1).map(OsString::as_os_str).collect();
-    match (command, words.as_slice()) {
-        ("read", [path, tag, reference]) => element::read(Path::new(path), edit::pair(tag, reference)?),
-        ("read", [path, tag, reference, out]) if *out == "-" => element::read(Path::new(path), edit::pair(tag, reference)?),
-        (command, words) => tell(command, words).map(String::into_bytes),
+fn run(command: &str, words: &[&OsStr]) -> Result<Vec<u8>, Fault> {
+    match (command, words) {
+        ("read", [path, tag, reference]) => Ok(element::read(Path::new(path), edit::pair(tag, reference)?)?),
+        ("read", [path, tag, reference, out]) if *out == "-" => run("read", &[path, tag, reference]),
+        ("groups", [path]) => vset::groups(Path::new(path)),
+        (command, words) => Ok(tell(command, words)?.into_bytes()),
     }
 }
 
@@ -72,16 +103,28 @@ fn tell(command: &str, words: &[&OsStr]) -> Result<String, String> {
     match (command, words) {
         ("read", [path, tag, reference, out]) => element::read_to(Path::new(path), edit::pair(tag, reference)?, Path::new(out)),
         ("list", [path]) => list(Path::new(path)),
-        ("groups", [path]) => vset::groups(Path::new(path)),
         ("groups", [path, reference]) => vset::group(Path::new(path), edit::number(reference)?),
         ("values", [path, reference]) => vset::values(Path::new(path), edit::number(reference)?),
         ("add", [path, tag, reference, data]) => edit::add(Path::new(path), edit::pair(tag, reference)?, data),
         ("replace", [path, tag, reference, data]) => edit::replace(Path::new(path), edit::pair(tag, reference)?, data),
         ("remove", [path, tag, reference]) => edit::remove(Path::new(path), edit::pair(tag, reference)?),
         ("undo", [path]) => edit::undo(Path::new(path)),
-        ("--help" | "-h", []) => Ok(HELP.to_string()),
-        _ => Err(format!("no such command\n{HELP}")),
+        _ => Err(usage(command)),
     }
+}
+
+/// How a command is used or, where there is no such command, what there is.
+fn usage(command: &str) -> String {
+    let line = HELP.lines().find(|line| line.contains(&format!(" hdf4 {command} ")));
+    match line {
+        Some(line) => format!("{command}: too few words, or too many\nusage: {}", line.trim_start_matches("usage:").trim()),
+        None if command.is_empty() => format!("a command is missing\n{}", HELP.trim_end()),
+        None => format!("{command}: no such command\n{}", HELP.trim_end()),
+    }
+}
+
+fn is_help(word: &OsString) -> bool {
+    word == "--help" || word == "-h"
 }
 
 fn print(bytes: &[u8]) -> io::Result<()> {
@@ -92,14 +135,23 @@ fn print(bytes: &[u8]) -> io::Result<()> {
 
 fn main() -> ExitCode {
     let words: Vec<OsString> = env::args_os().skip(1).collect();
-    match run(&words) {
-        Ok(bytes) => match print(&bytes) {
-            Ok(()) => ExitCode::SUCCESS,
-            Err(_) => ExitCode::FAILURE,
-        },
-        Err(message) => {
-            eprintln!("hdf4: {message}");
-            ExitCode::FAILURE
-        }
+    let rest: Vec<&OsStr> = words.iter().skip(1).map(OsString::as_os_str).collect();
+    let command = words.first().map_or("".into(), |word| word.to_string_lossy());
+    let outcome = if words.iter().any(is_help) { Ok(HELP.into()) } else { run(&command, &rest) };
+    let (printed, messages) = match outcome {
+        Ok(bytes) => (bytes, Vec::new()),
+        Err(Fault { printed, messages }) => (printed, messages),
+    };
+    let unprinted = print(&printed).err();
+    messages.iter().for_each(|message| eprintln!("hdf4: {message}"));
+    match &unprinted {
+        // The reader of a pipe had enough, as `head` has.
+        Some(e) if e.kind() != ErrorKind::BrokenPipe => eprintln!("hdf4: standard output: {e}"),
+        _ => {}
+    }
+    if messages.is_empty() && unprinted.is_none() {
+        ExitCode::SUCCESS
+    } else {
+        ExitCode::FAILURE
     }
 }

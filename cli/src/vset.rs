@@ -1,18 +1,34 @@
 //! The commands that print Vgroups and Vdatas.
 
-use crate::read;
+use crate::{read, Fault};
 use hdf4::{Error, Field, Value};
 use std::path::Path;
 
+const HEAD: u16 = 1962;
+const VALUES: u16 = 1963;
 const GROUP: u16 = 1965;
 const CHARACTERS: [u16; 2] = [3, 4];
 
-/// The Vgroups of a file in the order of its directory, each with what is below it.
-pub fn groups(path: &Path) -> Result<String, String> {
+/// A file without elements: the first four bytes and a block of no slots.
+const EMPTY: [u8; 10] = *b"\x0e\x03\x13\x01\0\0\0\0\0\0";
+
+/// The Vgroups of a file in the order of its directory, each with what is below it. One that is refused does not keep the
+/// others from being printed.
+pub fn groups(path: &Path) -> Result<Vec<u8>, Fault> {
     let image = read(path)?;
     let elements = hdf4::list(&image).map_err(|e| format!("{}: {e}", path.display()))?;
-    let groups = elements.iter().filter(|element| hdf4::base_tag(element.tag) == GROUP);
-    groups.map(|element| told(path, &image, element.reference)).collect()
+    let (mut printed, mut messages) = (Vec::new(), Vec::new());
+    for element in elements.iter().filter(|element| hdf4::base_tag(element.tag) == GROUP) {
+        match told(path, &image, element.reference) {
+            Ok(text) => printed.extend(text.into_bytes()),
+            Err(message) => messages.push(message),
+        }
+    }
+    if messages.is_empty() {
+        Ok(printed)
+    } else {
+        Err(Fault { printed, messages })
+    }
 }
 
 /// One Vgroup of a file.
@@ -56,12 +72,32 @@ fn table(image: &[u8], reference: u16) -> Result<String, Error> {
     let names: Vec<String> = vdata.fields.iter().map(|field| field.name.escape_ascii().to_string()).collect();
     let mut text = names.join("\t") + "\n";
     let records = if vdata.fields.is_empty() { 0 } else { vdata.records as usize };
+    if records > 0 {
+        // The first value is refused if any is, and names the place in this file.
+        hdf4::read_value(image, reference, 0, 0, 0)?;
+    }
+    let alone = alone(image, reference);
+    let image = alone.as_deref().unwrap_or(image);
     for record in 0..records {
         let cells = vdata.fields.iter().enumerate().map(|(index, field)| cell(image, reference, [record, index], field));
         text += &cells.collect::<Result<Vec<String>, Error>>()?.join("\t");
         text += "\n";
     }
     Ok(text)
+}
+
+/// A file with nothing but the head and the values of a Vdata. Each value is read by a call of its own, and each call opens the
+/// file: this one opens at once, however many elements are beside the Vdata.
+fn alone(image: &[u8], reference: u16) -> Result<Vec<u8>, Error> {
+    let mut buffer = EMPTY.to_vec();
+    let mut length = buffer.len();
+    for tag in [HEAD, VALUES] {
+        let part = hdf4::view(image, tag, reference)?;
+        buffer.resize(length + part.len() + hdf4::EDIT_ROOM, 0);
+        length = hdf4::add(&mut buffer, length, tag, reference, part)?;
+    }
+    buffer.truncate(length);
+    Ok(buffer)
 }
 
 /// The numbers of one field in one record, or its text.

@@ -2,7 +2,8 @@
 
 mod common;
 
-use common::{file, granted, refused, text, Folder};
+use common::{file, granted, partly_granted, refused, text, Folder};
+use std::fs;
 
 #[test]
 fn groups_are_listed_with_what_is_below_them() {
@@ -26,14 +27,18 @@ ref 2 class \"group\" name \"top\"
 }
 
 #[test]
-fn a_group_too_deep_is_named_and_the_others_can_be_listed() {
+fn groups_that_are_refused_are_named_and_the_others_listed() {
     let path = file("vgroups_deep.hdf");
-    let message = refused(&["groups", &path]);
-    let fault = "Vgroup 2: DEEP: groups are nested more than 16 deep (number 22, place 771)\n";
-    assert_eq!(message, format!("hdf4: {path}: {fault}"));
-    let listed = granted(&["groups", &path, "4"]);
-    assert_eq!(listed.lines().count(), 16);
-    assert!(listed.ends_with(&format!("\n{}tag 1965 ref 19\n", "  ".repeat(15))));
+    let (listed, messages) = partly_granted(&["groups", &path]);
+    let fault = |reference: u16, place: u16| {
+        format!("hdf4: {path}: Vgroup {reference}: DEEP: groups are nested more than 16 deep (number 22, place {place})\n")
+    };
+    assert_eq!(messages, fault(2, 771) + &fault(3, 783));
+    let others = (4..=19).map(|reference| granted(&["groups", &path, &reference.to_string()]));
+    assert_eq!(listed, others.collect::<String>());
+    let deepest = granted(&["groups", &path, "4"]);
+    assert_eq!(deepest.lines().count(), 16);
+    assert!(deepest.ends_with(&format!("\n{}tag 1965 ref 19\n", "  ".repeat(15))));
 }
 
 /// The samples that the real files hold, as the program that wrote them had them in memory: low byte first.
@@ -85,8 +90,18 @@ fn fields_are_separated_by_tabs_and_numbers_by_spaces() {
     }
 }
 
+/// A copy of a real file in which the values of a Vdata, in its second slot, are one byte short. Its path as a word.
+fn shortened(folder: &Folder) -> String {
+    let path = folder.copy_of("vdata_interlaces.hdf");
+    let mut image = fs::read(&path).unwrap();
+    image[33] -= 1;
+    fs::write(&path, image).unwrap();
+    text(&path).to_string()
+}
+
 #[test]
 fn refusals_name_their_rule() {
+    let folder = Folder::new("refusals");
     let path = file("vgroups.hdf");
     assert!(refused(&["groups", &path, "9"]).contains("Vgroup 9: ABSENT"));
     assert!(refused(&["values", &path, "2"]).contains("Vdata 2: ABSENT"));
@@ -94,7 +109,9 @@ fn refusals_name_their_rule() {
     assert!(refused(&["values", &path]).contains("usage:"));
     assert!(refused(&["groups", &file("set_aside.hdf")]).contains("OUTSIDE"));
     assert!(refused(&["values", &file("vdata_appended.hdf"), "2"]).contains("STORAGE"));
-    assert!(refused(&["groups", &file("vgroup_attributes.hdf")]).contains("RECORD: a record breaks its layout"));
+    assert!(refused(&["values", &shortened(&folder), "2"]).contains("RECORD: a record breaks its layout (number 15, place 22)"));
+    let (_, message) = partly_granted(&["groups", &file("vgroup_attributes.hdf")]);
+    assert!(message.contains("RECORD: a record breaks its layout"));
 }
 
 /// A file with the group 1965/1 of no members, and the Vdata 1962/1 of no fields and as many records as there can be.

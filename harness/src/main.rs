@@ -8,10 +8,8 @@
 //!     harness [--seed N] --record N                     one file with records again, with its bytes
 //!     harness [--seed N] --sequence N                   one sequence again, with its calls
 //!     harness --file PATH                               one file
-//!     harness --bench                                   how fast an element is copied
 
 mod arguments;
-mod bench;
 mod cases;
 mod compare;
 mod editor;
@@ -61,7 +59,6 @@ struct Options {
     record: Option<u64>,
     sequence: Option<u64>,
     file: Option<PathBuf>,
-    bench: bool,
 }
 
 fn main() -> ExitCode {
@@ -87,14 +84,9 @@ fn options() -> Result<Options, String> {
         record: None,
         sequence: None,
         file: None,
-        bench: false,
     };
     let mut arguments = std::env::args().skip(1);
     while let Some(name) = arguments.next() {
-        if name == "--bench" {
-            options.bench = true;
-            continue;
-        }
         let value = arguments.next().ok_or(format!("{name}: a value is missing"))?;
         match name.as_str() {
             "--seed" => options.seed = number(&value)?,
@@ -120,9 +112,6 @@ fn number(value: &str) -> Result<u64, String> {
 fn run(options: &Options) -> Result<(), String> {
     let mut tally = Tally::default();
     let mut random = Random::new(options.seed, u64::MAX);
-    if options.bench {
-        return bench::copy_against_memory();
-    }
     if let Some(path) = &options.file {
         return files::show(path, &mut random, &mut tally);
     }

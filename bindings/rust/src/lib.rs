@@ -1,8 +1,11 @@
 //! A safe interface to the proved HDF4 library: slices in, `Result` out.
 //!
-//! An image is the bytes of a whole file. Nothing is kept between calls, and nothing is allocated but lists.
+//! An image is the bytes of a whole file. Nothing is kept between calls, and nothing is allocated but lists. No call asks
+//! anything of its arguments: every input is answered, or refused with an [`Error`] that names the [`Rule`] and the place.
 //!
 //! # Reading
+//!
+//! [`open`] judges an image and counts its directory, [`list`] gives its elements, [`find`] the descriptor of one.
 //!
 //! [`view`] gives an element's own part of the image, [`choose`] that of the first of two images that has the element, and
 //! [`copy`] writes its bytes to a buffer, also where the element is of linked blocks.
@@ -42,6 +45,15 @@
 //! # Ok(())
 //! # }
 //! ```
+//!
+//! The data may not lie in the buffer, nor an output in the image. The compiler sees to it:
+//!
+//! ```compile_fail,E0502
+//! let mut buffer = vec![0; 300];
+//! let _ = hdf4::add(&mut buffer, 37, 40000, 5, &buffer[..3]);
+//! ```
+
+#![deny(missing_docs)]
 
 mod ffi;
 mod records;
@@ -54,112 +66,139 @@ pub use vset::{Field, Group, Value, Vdata, MOST_FIELDS, MOST_PAIRS};
 
 use std::fmt;
 
-/// The rule that a call's input breaks.
-#[derive(Clone, Copy, Debug, PartialEq, Eq)]
+/// The rule that a call's input breaks. Its number is that of the refusal.
+#[derive(Clone, Copy, Debug, PartialEq, Eq, Hash)]
 #[non_exhaustive]
 pub enum Rule {
-    /// The image is longer than 2,147,483,647 bytes or than its buffer, or an edit would make it longer than that many bytes.
-    TooLong,
+    /// The image is longer than [`MOST_BYTES`] or than its buffer, or an edit would make it longer than that.
+    TooLong = 1,
     /// Shorter than 4 bytes, or other first bytes.
-    NotHdf,
+    NotHdf = 2,
     /// A block is not wholly inside.
-    DirCut,
+    DirCut = 3,
     /// The next block is one already walked.
-    DirLoop,
+    DirLoop = 4,
     /// A block shares a byte with the header or an earlier block.
-    DirOver,
+    DirOver = 5,
     /// A 257th block or a 4,097th slot.
-    DirBig,
+    DirBig = 6,
     /// A tag that no live slot may have, or that no edit takes.
-    BadTag,
+    BadTag = 7,
     /// An element ends past the image.
-    Outside,
+    Outside = 8,
     /// An element touches the header or a block.
-    OnDirectory,
+    OnDirectory = 9,
     /// Two live slots have the same base tag and reference.
-    Twice,
+    Twice = 10,
     /// No live slot has that base tag and reference.
-    Absent,
+    Absent = 11,
     /// The element is extended, and not of a kind that the call reads.
-    Storage,
+    Storage = 12,
     /// The linked blocks of the element are broken.
-    Chain,
+    Chain = 13,
     /// The lent output is too short.
-    Small,
+    Small = 14,
     /// A record breaks its layout.
-    Record,
+    Record = 15,
     /// A number type is not known.
-    Type,
+    Type = 16,
     /// The Vdata has no such record, field or component.
-    NoValue,
+    NoValue = 17,
     /// An element with that base tag and reference is there already.
-    Present,
+    Present = 18,
     /// The buffer is shorter than the new image.
-    NoRoom,
+    NoRoom = 19,
     /// The image carries no trailer, so there is nothing to undo.
-    NoEdit,
+    NoEdit = 20,
     /// The trailer breaks a rule.
-    BadTrailer,
+    BadTrailer = 21,
     /// Groups are nested past 16.
-    Deep,
+    Deep = 22,
 }
 
-/// Each rule with its number, its name, and what it says.
-const RULES: [(u64, Rule, &str, &str); 22] = [
-    (1, Rule::TooLong, "TOO_LONG", "the file is too long"),
-    (2, Rule::NotHdf, "NOT_HDF", "this is no HDF4 file"),
-    (3, Rule::DirCut, "DIR_CUT", "a block of descriptors is not wholly inside the file"),
-    (4, Rule::DirLoop, "DIR_LOOP", "the chain of blocks comes back to one already walked"),
-    (5, Rule::DirOver, "DIR_OVER", "a block of descriptors overlaps the header or an earlier block"),
-    (6, Rule::DirBig, "DIR_BIG", "there are more than 256 blocks or 4,096 slots"),
-    (7, Rule::BadTag, "BAD_TAG", "a tag is not allowed"),
-    (8, Rule::Outside, "OUTSIDE", "an element ends past the end of the file"),
-    (9, Rule::OnDirectory, "ON_DIRECTORY", "an element touches the header or a block of descriptors"),
-    (10, Rule::Twice, "TWICE", "two elements have the same tag and reference"),
-    (11, Rule::Absent, "ABSENT", "there is no element with that tag and reference"),
-    (12, Rule::Storage, "STORAGE", "the element is stored in a way that is not read here"),
-    (13, Rule::Chain, "CHAIN", "the linked blocks of the element are broken"),
-    (14, Rule::Small, "SMALL", "the output is too short"),
-    (15, Rule::Record, "RECORD", "a record breaks its layout"),
-    (16, Rule::Type, "TYPE", "a number type is not known"),
-    (17, Rule::NoValue, "NO_VALUE", "there is no such record, field or component"),
-    (18, Rule::Present, "PRESENT", "there is already an element with that tag and reference"),
-    (19, Rule::NoRoom, "NO_ROOM", "the buffer has no room for the edit"),
-    (20, Rule::NoEdit, "NO_EDIT", "there is no edit to undo"),
-    (21, Rule::BadTrailer, "BAD_TRAILER", "the trailer of the last edit is damaged"),
-    (22, Rule::Deep, "DEEP", "groups are nested more than 16 deep"),
+/// Each rule with its name and what it says, in the order of their numbers.
+const RULES: [(Rule, &str, &str); 22] = [
+    (Rule::TooLong, "TOO_LONG", "the file is too long"),
+    (Rule::NotHdf, "NOT_HDF", "this is no HDF4 file"),
+    (Rule::DirCut, "DIR_CUT", "a block of descriptors is not wholly inside the file"),
+    (Rule::DirLoop, "DIR_LOOP", "the chain of blocks comes back to one already walked"),
+    (Rule::DirOver, "DIR_OVER", "a block of descriptors overlaps the header or an earlier block"),
+    (Rule::DirBig, "DIR_BIG", "there are more than 256 blocks or 4,096 slots"),
+    (Rule::BadTag, "BAD_TAG", "a tag is not allowed"),
+    (Rule::Outside, "OUTSIDE", "an element ends past the end of the file"),
+    (Rule::OnDirectory, "ON_DIRECTORY", "an element touches the header or a block of descriptors"),
+    (Rule::Twice, "TWICE", "two elements have the same tag and reference"),
+    (Rule::Absent, "ABSENT", "there is no element with that tag and reference"),
+    (Rule::Storage, "STORAGE", "the element is stored in a way that is not read here"),
+    (Rule::Chain, "CHAIN", "the linked blocks of the element are broken"),
+    (Rule::Small, "SMALL", "the output is too short"),
+    (Rule::Record, "RECORD", "a record breaks its layout"),
+    (Rule::Type, "TYPE", "a number type is not known"),
+    (Rule::NoValue, "NO_VALUE", "there is no such record, field or component"),
+    (Rule::Present, "PRESENT", "there is already an element with that tag and reference"),
+    (Rule::NoRoom, "NO_ROOM", "the buffer has no room for the edit"),
+    (Rule::NoEdit, "NO_EDIT", "there is no edit to undo"),
+    (Rule::BadTrailer, "BAD_TRAILER", "the trailer of the last edit is damaged"),
+    (Rule::Deep, "DEEP", "groups are nested more than 16 deep"),
 ];
+
+impl Rule {
+    /// The refusal's number, from 1 on.
+    pub fn number(self) -> u64 {
+        self as u64
+    }
+
+    /// The refusal's name, as `TOO_LONG`.
+    pub fn name(self) -> &'static str {
+        RULES[self as usize - 1].1
+    }
+}
+
+/// The name, a colon and what the rule says.
+impl fmt::Display for Rule {
+    fn fmt(&self, f: &mut fmt::Formatter<'_>) -> fmt::Result {
+        write!(f, "{}: {}", self.name(), RULES[*self as usize - 1].2)
+    }
+}
+
+/// The most bytes that an image has.
+pub const MOST_BYTES: usize = 2_147_483_647;
+
+/// The most elements that an image has.
+pub const MOST_ELEMENTS: usize = 4096;
 
 /// The most bytes by which an edit makes an image longer, besides its data: a block of descriptors and a trailer.
 pub const EDIT_ROOM: usize = 198 + 32;
 
-/// A refusal: the rule, its number, and the place of the fault in the image.
-#[derive(Clone, Copy, Debug, PartialEq, Eq)]
+/// A refusal: the rule, and the place of the fault.
+#[derive(Clone, Copy, Debug, PartialEq, Eq, Hash)]
 pub struct Error {
+    /// The rule that is broken.
     pub rule: Rule,
-    pub number: u64,
+    /// Where, in bytes from the start of the image: a block's or a slot's place, or 0.
     pub place: u64,
 }
 
 impl Error {
+    /// The refusal with a number that the library gave.
     fn new(number: u64, place: u64) -> Error {
-        let row = RULES.iter().find(|row| row.0 == number).expect("every refusal has a rule");
-        Error { rule: row.1, number, place }
+        Error { rule: RULES[number as usize - 1].0, place }
     }
 
-    fn row(&self) -> &'static (u64, Rule, &'static str, &'static str) {
-        RULES.iter().find(|row| row.0 == self.number).expect("every refusal has a rule")
+    /// The rule's number.
+    pub fn number(&self) -> u64 {
+        self.rule.number()
     }
 
     /// The rule's name, as `TOO_LONG`.
     pub fn name(&self) -> &'static str {
-        self.row().2
+        self.rule.name()
     }
 }
 
 impl fmt::Display for Error {
     fn fmt(&self, f: &mut fmt::Formatter<'_>) -> fmt::Result {
-        write!(f, "{}: {} (number {}, place {})", self.row().2, self.row().3, self.number, self.place)
+        write!(f, "{} (number {}, place {})", self.rule, self.number(), self.place)
     }
 }
 
@@ -168,21 +207,28 @@ impl std::error::Error for Error {}
 /// The counts of an image's directory.
 #[derive(Clone, Copy, Debug, PartialEq, Eq)]
 pub struct Counts {
+    /// Blocks of descriptors.
     pub blocks: usize,
+    /// Descriptors in them, the free ones included.
     pub slots: usize,
+    /// Descriptors that are not free: elements.
     pub live: usize,
 }
 
 /// A live descriptor, as it is stored.
 #[derive(Clone, Copy, Debug, PartialEq, Eq)]
 pub struct Element {
+    /// The tag, from 16384 to 32767 where the element is extended. [`base_tag`] gives its base tag.
     pub tag: u16,
+    /// The reference.
     pub reference: u16,
+    /// Where the element begins in the image.
     pub offset: u32,
+    /// How many bytes it has there.
     pub length: u32,
 }
 
-/// The base tag of a tag.
+/// The base tag of a tag: from 16384 to 32767 the tag less 16384, else the tag itself.
 pub fn base_tag(tag: u16) -> u16 {
     if (16384..=32767).contains(&tag) {
         tag - 16384
@@ -213,16 +259,19 @@ pub fn find(image: &[u8], tag: u16, reference: u16) -> Result<usize, Error> {
 
 /// Lists the elements of an image in the order of its directory.
 pub fn list(image: &[u8]) -> Result<Vec<Element>, Error> {
-    let mut table = vec![0u32; 4 * open(image)?.live];
+    let mut table = vec![0; 4 * MOST_ELEMENTS];
     let a = ffi::list(image, &mut table);
+    let count = granted(a.number, a.place, a.elements as usize)?;
     let element = |d: &[u32]| Element { tag: d[0] as u16, reference: d[1] as u16, offset: d[2], length: d[3] };
-    granted(a.number, a.place, table.chunks_exact(4).map(element).collect())
+    Ok(table.chunks_exact(4).take(count).map(element).collect())
 }
 
-/// The file that an element was chosen from.
+/// The file of two that an element was chosen from.
 #[derive(Clone, Copy, Debug, PartialEq, Eq)]
 pub enum Source {
+    /// The current file.
     Current,
+    /// The file that stands in for what the current one lacks.
     Fallback,
 }
 
@@ -305,9 +354,21 @@ pub(crate) mod tests {
     #[test]
     fn a_refusal_names_its_rule() {
         let absent = find(&A, 100, 2).unwrap_err();
-        assert_eq!((absent.rule, absent.name(), absent.number, absent.place), (Rule::Absent, "ABSENT", 11, 0));
+        assert_eq!((absent.rule, absent.name(), absent.number(), absent.place), (Rule::Absent, "ABSENT", 11, 0));
         assert_eq!(open(b"").unwrap_err().rule, Rule::NotHdf);
-        assert_eq!(open(&A[..10]).unwrap_err().to_string(), "DIR_CUT: a block of descriptors is not wholly inside the file (number 3, place 4)");
+        assert_eq!(
+            open(&A[..10]).unwrap_err().to_string(),
+            "DIR_CUT: a block of descriptors is not wholly inside the file (number 3, place 4)"
+        );
+    }
+
+    #[test]
+    fn rules_stand_in_the_order_of_their_numbers() {
+        for (index, (rule, name, _)) in RULES.iter().enumerate() {
+            assert_eq!((rule.number(), rule.name()), (index as u64 + 1, *name));
+            let spelled = name.replace('_', "").to_lowercase();
+            assert_eq!(format!("{rule:?}").to_lowercase(), spelled);
+        }
     }
 
     /// Linked element 100/1 of seven bytes: the record at 46, then its table 20/1 and the block 20/2, which both entries name.
@@ -325,7 +386,7 @@ pub(crate) mod tests {
         assert_eq!(part.as_ptr(), A[34..].as_ptr());
         assert_eq!(view(&A, 100, 2).unwrap_err().rule, Rule::Absent);
         let extended = view(&LINKED, 100, 1).unwrap_err();
-        assert_eq!((extended.rule, extended.number, extended.place), (Rule::Storage, 12, 10));
+        assert_eq!((extended.rule, extended.number(), extended.place), (Rule::Storage, 12, 10));
     }
 
     #[test]
@@ -377,7 +438,7 @@ pub(crate) mod tests {
     /// The rule, number and place of a refusal.
     pub fn rule<T: fmt::Debug>(answer: Result<T, Error>) -> (Rule, u64, u64) {
         let error = answer.unwrap_err();
-        (error.rule, error.number, error.place)
+        (error.rule, error.number(), error.place)
     }
 
     /// A file of one block with these elements, their slots from 10 on: tag, reference and bytes of each.

@@ -6,34 +6,48 @@ use crate::{granted, view, Error};
 /// A tag and a reference.
 #[derive(Clone, Copy, Debug, PartialEq, Eq)]
 pub struct Pair {
+    /// The tag.
     pub tag: u16,
+    /// The reference.
     pub reference: u16,
 }
 
-/// A number type, of tag 106.
+/// A number type, of tag 106: four bytes of any values.
 #[derive(Clone, Copy, Debug, PartialEq, Eq)]
 pub struct NumberType {
+    /// The version of this record.
     pub version: u8,
+    /// The type's code, as 24 for a signed number of 32 bits.
     pub number_type: u8,
+    /// How many bits a number has.
     pub width: u8,
+    /// How the number is written, as 1 for high byte first.
     pub class: u8,
 }
 
 /// A dimension, of tag 300, 307 or 308. The interlace is at most 2.
 #[derive(Clone, Copy, Debug, PartialEq, Eq)]
 pub struct Dimension {
+    /// Columns.
     pub x: u32,
+    /// Rows.
     pub y: u32,
+    /// Names the record of the number type.
     pub number_type: Pair,
+    /// Numbers in each point.
     pub elements: u16,
+    /// By point (0), by row (1) or by plane (2).
     pub interlace: u16,
+    /// Names how the image is compressed.
     pub compression: Pair,
 }
 
 /// An array, of tag 701: at least one size, and one pair more, the data's number type first.
 #[derive(Clone, Debug, PartialEq, Eq)]
 pub struct Array {
+    /// The size in each dimension.
     pub sizes: Vec<u32>,
+    /// The number type of the data, then that of the scale of each dimension.
     pub pairs: Vec<Pair>,
 }
 

@@ -8,21 +8,32 @@ use std::fmt;
 /// A Vgroup, of tag 1965. The version is 3.
 #[derive(Clone, Debug, PartialEq, Eq)]
 pub struct Group<'a> {
+    /// The members in order.
     pub members: Vec<Pair>,
+    /// The name, a part of the image.
     pub name: &'a [u8],
+    /// The class, a part of the image.
     pub class: &'a [u8],
+    /// The extension's tag and reference.
     pub extension: Pair,
+    /// The version: 3.
     pub version: u16,
+    /// The field named more.
     pub more: u16,
 }
 
 /// A field of a Vdata: `order` numbers of a type, `size` bytes from `offset` on in each record.
 #[derive(Clone, Copy, Debug, PartialEq, Eq)]
 pub struct Field<'a> {
+    /// The name, a part of the image.
     pub name: &'a [u8],
+    /// The type's code.
     pub number_type: u16,
+    /// Bytes of the field in a record.
     pub size: u16,
+    /// Bytes of the fields before it.
     pub offset: u16,
+    /// Numbers of the field in a record, at least 1.
     pub order: u16,
 }
 
@@ -30,23 +41,36 @@ pub struct Field<'a> {
 /// are at most [`MOST_FIELDS`] fields, and the version is 3.
 #[derive(Clone, Debug, PartialEq, Eq)]
 pub struct Vdata<'a> {
+    /// 0 or 1.
     pub interlace: u16,
+    /// How many records.
     pub records: u32,
+    /// Bytes of a record: the sum of its fields' sizes.
     pub record_size: u16,
+    /// The fields in order.
     pub fields: Vec<Field<'a>>,
+    /// The name, a part of the image.
     pub name: &'a [u8],
+    /// The class, a part of the image.
     pub class: &'a [u8],
+    /// The extension's tag and reference.
     pub extension: Pair,
+    /// The version: 3.
     pub version: u16,
+    /// The field named more.
     pub more: u16,
 }
 
 /// A value of a Vdata. A float has the bits that it has in the file, also where it is a NaN.
 #[derive(Clone, Copy, Debug, PartialEq)]
 pub enum Value {
+    /// Of type 20, 22 or 24.
     Signed(i64),
+    /// Of type 21, 23 or 25, or a character, type 3 or 4.
     Unsigned(u64),
+    /// Of type 5.
     Float32(f32),
+    /// Of type 6.
     Float64(f64),
 }
 

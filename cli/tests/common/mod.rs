@@ -81,10 +81,16 @@ pub fn granted(words: &[&str]) -> String {
     String::from_utf8(granted_bytes(words)).unwrap()
 }
 
-/// A command that must end with 1 and print nothing; answers its message.
-pub fn refused(words: &[&str]) -> String {
+/// A command that must end with 1; answers the text that it printed and its messages.
+pub fn partly_granted(words: &[&str]) -> (String, String) {
     let Output { status, stdout, stderr } = program().args(words).output().unwrap();
     assert_eq!(status.code(), Some(1), "{words:?}");
-    assert!(stdout.is_empty(), "{words:?}");
-    String::from_utf8(stderr).unwrap()
+    (String::from_utf8(stdout).unwrap(), String::from_utf8(stderr).unwrap())
+}
+
+/// A command that must end with 1 and print nothing; answers its message.
+pub fn refused(words: &[&str]) -> String {
+    let (printed, message) = partly_granted(words);
+    assert!(printed.is_empty(), "{words:?}");
+    message
 }

@@ -1,0 +1,113 @@
+/* Adds a road closure to a small file in memory, finds, views and copies it, and takes it back: the file is then as it was,
+ * byte for byte.
+ *
+ *     cc -std=c99 -Iinclude examples/closure.c target/staticlib/libhdf4.a -o closure && ./closure
+ */
+#include <inttypes.h>
+#include <stdio.h>
+#include <stdlib.h>
+#include <string.h>
+
+#include "hdf4.h"
+
+#define TAG 40000
+#define REFERENCE 5
+#define EDIT_ROOM 230 /* the most bytes by which an edit makes a file longer, besides its data */
+
+static const uint8_t text[] = "pass road closed: snow";
+#define SIZE (sizeof text - 1)
+
+/* A file of one element, tag 100 and reference 1, and a free slot. */
+static const uint8_t start[] = {
+    0x0e, 0x03, 0x13, 0x01,                /* the first four bytes */
+    0, 2, 0, 0, 0, 0,                      /* a block of two slots, and no next block */
+    0, 100, 0, 1, 0, 0, 0, 34, 0, 0, 0, 3, /* tag 100, reference 1: three bytes at 34 */
+    0, 1, 0, 0, 0, 0, 0, 0, 0, 0, 0, 0,    /* a free slot */
+    'h', 'u', 'b',
+};
+
+/* The names of the refusals, by their numbers. */
+static const char *const names[] = {
+    [HDF4_TOO_LONG] = "TOO_LONG",
+    [HDF4_NOT_HDF] = "NOT_HDF",
+    [HDF4_DIR_CUT] = "DIR_CUT",
+    [HDF4_DIR_LOOP] = "DIR_LOOP",
+    [HDF4_DIR_OVER] = "DIR_OVER",
+    [HDF4_DIR_BIG] = "DIR_BIG",
+    [HDF4_BAD_TAG] = "BAD_TAG",
+    [HDF4_OUTSIDE] = "OUTSIDE",
+    [HDF4_ON_DIRECTORY] = "ON_DIRECTORY",
+    [HDF4_TWICE] = "TWICE",
+    [HDF4_ABSENT] = "ABSENT",
+    [HDF4_STORAGE] = "STORAGE",
+    [HDF4_CHAIN] = "CHAIN",
+    [HDF4_SMALL] = "SMALL",
+    [HDF4_RECORD] = "RECORD",
+    [HDF4_TYPE] = "TYPE",
+    [HDF4_NO_VALUE] = "NO_VALUE",
+    [HDF4_PRESENT] = "PRESENT",
+    [HDF4_NO_ROOM] = "NO_ROOM",
+    [HDF4_NO_EDIT] = "NO_EDIT",
+    [HDF4_BAD_TRAILER] = "BAD_TRAILER",
+    [HDF4_DEEP] = "DEEP",
+};
+
+/* Ends the program if a call was refused. */
+static void need(const char *call, uint64_t number, uint64_t place)
+{
+    if (number == 0)
+        return;
+    fprintf(stderr, "%s: %s (number %" PRIu64 ", place %" PRIu64 ")\n", call, names[number], number, place);
+    exit(1);
+}
+
+/* Ends the program if something is not as it must be. */
+static void check(int holds, const char *fault)
+{
+    if (holds)
+        return;
+    fprintf(stderr, "%s\n", fault);
+    exit(1);
+}
+
+/* Finds, views and copies the closure. */
+static void read_closure(const uint8_t *image, size_t n)
+{
+    uint8_t out[SIZE];
+
+    hdf4_find_answer found = hdf4_find(image, n, TAG, REFERENCE);
+    need("hdf4_find", found.number, found.place);
+    printf("found: its descriptor is at %" PRIu64 "\n", found.slot);
+
+    hdf4_view_answer part = hdf4_view(image, n, TAG, REFERENCE);
+    need("hdf4_view", part.number, part.place);
+    printf("viewed: %.*s\n", (int)part.length, (const char *)image + part.offset);
+    check(part.length == SIZE && memcmp(image + part.offset, text, SIZE) == 0, "the view has other bytes");
+
+    hdf4_copy_answer copied = hdf4_copy(image, n, TAG, REFERENCE, out, SIZE);
+    need("hdf4_copy", copied.number, copied.place);
+    printf("copied: %" PRIu64 " bytes\n", copied.length);
+    check(copied.length == SIZE && memcmp(out, text, SIZE) == 0, "the copy has other bytes");
+}
+
+int main(void)
+{
+    uint8_t buffer[sizeof start + SIZE + EDIT_ROOM] = {0};
+    memcpy(buffer, start, sizeof start);
+
+    hdf4_edit_answer added = hdf4_add(buffer, sizeof buffer, sizeof start, TAG, REFERENCE, text, SIZE);
+    need("hdf4_add", added.number, added.place);
+    printf("added: %zu bytes became %" PRIu64 "\n", sizeof start, added.length);
+    read_closure(buffer, added.length);
+
+    /* A second closure under the same reference is refused, and nothing is written. */
+    hdf4_edit_answer again = hdf4_add(buffer, sizeof buffer, added.length, TAG, REFERENCE, text, SIZE);
+    check(again.number == HDF4_PRESENT, "a second closure was not refused");
+    printf("refused: %s (number %" PRIu64 ", place %" PRIu64 ")\n", names[again.number], again.number, again.place);
+
+    hdf4_edit_answer undone = hdf4_undo(buffer, sizeof buffer, added.length);
+    need("hdf4_undo", undone.number, undone.place);
+    check(undone.length == sizeof start && memcmp(buffer, start, sizeof start) == 0, "the file is not as it was");
+    printf("taken back: %" PRIu64 " bytes, as they were\n", undone.length);
+    return 0;
+}

@@ -1,0 +1,120 @@
+/* Files of plain elements, written by libhdf4 itself. */
+#define _POSIX_C_SOURCE 200809L
+#include <fcntl.h>
+#include <stdio.h>
+#include <stdlib.h>
+#include <string.h>
+#include <sys/stat.h>
+#include <unistd.h>
+
+#include "bench.h"
+#include "hdf.h"
+#include "hdf4.h"
+
+enum { ROOM = 4096 }; /* for an edit */
+
+const char *const order_names[ORDERS] = {"ascending", "shuffled", "descending"};
+
+static void swap(uint16_t *a, uint16_t *b)
+{
+    uint16_t kept = *a;
+    *a = *b;
+    *b = kept;
+}
+
+/* The references in the order in which they are written. The shuffle is the same in every run. */
+static void fill_references(uint16_t *references, int count, enum order order)
+{
+    uint64_t state = 19930401;
+    for (int i = 0; i < count; i++)
+        references[i] = (uint16_t)(FIRST_REFERENCE + (order == DESCENDING ? count - 1 - i : i));
+    for (int i = count - 1; order == SHUFFLED && i > 0; i--) {
+        state = state * 6364136223846793005u + 1442695040888963407u;
+        swap(&references[i], &references[(state >> 33) % (uint64_t)(i + 1)]);
+    }
+}
+
+/* Opens a file that is there now with our library, and keeps its bytes. */
+static void load(struct file *file)
+{
+    struct stat status;
+    need(stat(file->path, &status) == 0, "the length of a file");
+    file->capacity = (size_t)status.st_size + ROOM;
+    file->buffer = malloc(file->capacity);
+    need(file->buffer != NULL, "memory for a file");
+    file->length = read_file(file->path, file->buffer, file->capacity);
+
+    hdf4_open_answer opened = hdf4_open(file->buffer, file->length);
+    need(opened.number == 0, "our library opens the file");
+    need((int)opened.live == file->elements + 1, "the elements and the version are live");
+    file->slots = (int)opened.slots;
+}
+
+static struct file file_named(const char *folder, const char *name, int elements)
+{
+    struct file file = {.elements = elements};
+    int length = snprintf(file.path, sizeof file.path, "%s/%s", folder, name);
+    need(length > 0 && (size_t)length < sizeof file.path, "the name of a file");
+    return file;
+}
+
+struct file make_file(const char *folder, const char *name, int slots, int per_block, enum order order)
+{
+    /* One slot is for the version, one stays free. */
+    struct file file = file_named(folder, name, slots - 2);
+    uint16_t references[MOST_SLOTS];
+    uint8_t bytes[ELEMENT_BYTES];
+
+    fill_references(references, file.elements, order);
+    int32 id = Hopen(file.path, DFACC_CREATE, (int16)per_block);
+    need(id != FAIL, "Hopen for a new file");
+    for (int i = 0; i < file.elements; i++) {
+        memset(bytes, references[i], sizeof bytes);
+        need(Hputelement(id, TAG, references[i], bytes, sizeof bytes) != FAIL, "Hputelement");
+    }
+    need(Hclose(id) != FAIL, "Hclose");
+    load(&file);
+    need(file.slots == slots, "the file has the slots that it should have");
+    return file;
+}
+
+struct file make_large_file(const char *folder, const char *name, size_t size)
+{
+    struct file file = file_named(folder, name, 1);
+    uint8_t *bytes = malloc(size);
+    need(bytes != NULL, "memory for a large element");
+    for (size_t i = 0; i < size; i++)
+        bytes[i] = (uint8_t)(i ^ (i >> 8));
+    int32 id = Hopen(file.path, DFACC_CREATE, 0);
+    need(id != FAIL && Hputelement(id, TAG, FIRST_REFERENCE, bytes, (int32)size) != FAIL, "Hputelement of a large element");
+    need(Hclose(id) != FAIL, "Hclose");
+    free(bytes);
+    load(&file);
+    return file;
+}
+
+size_t read_file(const char *path, uint8_t *buffer, size_t capacity)
+{
+    struct stat status;
+    int id = open(path, O_RDONLY);
+    need(id >= 0 && fstat(id, &status) == 0 && (size_t)status.st_size <= capacity, "a file to read");
+    size_t length = (size_t)status.st_size;
+    need(read(id, buffer, length) == (ssize_t)length, "the bytes of a file");
+    close(id);
+    return length;
+}
+
+void copy_file(const struct file *file, const char *suffix, char *path, size_t room)
+{
+    int length = snprintf(path, room, "%s%s", file->path, suffix);
+    need(length > 0 && (size_t)length < room, "the name of a copy");
+    FILE *copy = fopen(path, "wb");
+    need(copy != NULL && fwrite(file->buffer, 1, file->length, copy) == file->length, "a copy of a file");
+    need(fclose(copy) == 0, "a copy of a file");
+}
+
+void free_file(struct file *file)
+{
+    unlink(file->path);
+    free(file->buffer);
+}
