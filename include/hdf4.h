@@ -118,6 +118,11 @@ typedef struct {
     uint64_t more;
 } hdf4_vdata_answer;
 
+typedef struct {
+    uint16_t type, size, offset, order;
+    uint32_t name_offset, name_length; /* in the image */
+} hdf4_field;
+
 enum hdf4_kind {
     HDF4_SIGNED = 1,
     HDF4_UNSIGNED = 2,
@@ -220,6 +225,9 @@ hdf4_pack_answer hdf4_pack_group(const uint16_t *members, size_t members_count, 
  * name. */
 hdf4_vdata_answer hdf4_read_vdata(const uint8_t *image, size_t n, uint16_t ref, uint16_t *fields, size_t fields_room, uint32_t *names,
                                   size_t names_room);
+
+/* The same with one table, an entry a field. It is refused with HDF4_SMALL where there are more fields than entries. */
+hdf4_vdata_answer hdf4_read_fields(const uint8_t *image, size_t n, uint16_t ref, hdf4_field *table, size_t room);
 
 /* Packs the head of a Vdata. The fields are given by four numbers each, as they are read; by the length of each field's name; and by these
  * names one after the other. */

@@ -25,6 +25,7 @@ pub enum Call {
     ReadArray,
     ReadGroup,
     ReadVdata,
+    ReadFields,
     ReadValue,
     ListGroup,
     PackNumberType,
@@ -34,7 +35,7 @@ pub enum Call {
     PackVdata,
 }
 
-const CALLS: [Call; 22] = [
+const CALLS: [Call; 23] = [
     Call::Open,
     Call::List,
     Call::Find,
@@ -50,6 +51,7 @@ const CALLS: [Call; 22] = [
     Call::ReadArray,
     Call::ReadGroup,
     Call::ReadVdata,
+    Call::ReadFields,
     Call::ReadValue,
     Call::ListGroup,
     Call::PackNumberType,
@@ -208,6 +210,7 @@ impl Call {
             Call::ReadArray => "read array",
             Call::ReadGroup => "read group",
             Call::ReadVdata => "read vdata",
+            Call::ReadFields => "fields",
             Call::ReadValue => "read value",
             Call::ListGroup => "list group",
             Call::PackNumberType => "pack type",
@@ -240,7 +243,7 @@ impl Call {
             Call::Undo => &[NO_EDIT, BAD_TRAILER],
             Call::ReadNumberType | Call::ReadDimension => &[ABSENT, STORAGE, RECORD],
             Call::ReadArray | Call::ReadGroup => &[ABSENT, STORAGE, SMALL, RECORD],
-            Call::ReadVdata => &[ABSENT, STORAGE, SMALL, RECORD, TYPE],
+            Call::ReadVdata | Call::ReadFields => &[ABSENT, STORAGE, SMALL, RECORD, TYPE],
             Call::ReadValue => &[ABSENT, STORAGE, RECORD, TYPE, NO_VALUE],
             Call::ListGroup => &[ABSENT, STORAGE, SMALL, RECORD, DEEP],
             Call::PackNumberType => &[SMALL],
@@ -264,12 +267,13 @@ impl Call {
 
     /// Whether the call can come to an answer by this cause.
     fn can_come(self, cause: Cause) -> bool {
-        let heads = [Call::ReadVdata, Call::ReadValue, Call::PackVdata];
+        let heads = [Call::ReadVdata, Call::ReadFields, Call::ReadValue, Call::PackVdata];
         let groups = [Call::ReadGroup, Call::ListGroup, Call::PackGroup];
         let interlaced = [Call::ReadDimension, Call::PackDimension];
+        let tabled = [Call::ReadArray, Call::ReadGroup, Call::ReadVdata, Call::ReadFields];
         match cause {
             Cause::Whole => self.is_on_records() && self != Call::ReadValue && self != Call::ListGroup,
-            Cause::BytesBehind => self == Call::ReadGroup || self == Call::ReadVdata,
+            Cause::BytesBehind => [Call::ReadGroup, Call::ReadVdata, Call::ReadFields].contains(&self),
             Cause::Opening | Cause::Absent | Cause::Extended => self.is_on_records() && !self.packs(),
             Cause::Length => [Call::ReadNumberType, Call::ReadDimension, Call::ReadArray].contains(&self),
             Cause::Cut => (heads.contains(&self) || groups.contains(&self)) && !self.packs(),
@@ -282,7 +286,7 @@ impl Call {
             Cause::FieldEntries | Cause::NamesLength => self == Call::PackVdata,
             Cause::FieldCount | Cause::Order | Cause::Type => heads.contains(&self),
             Cause::Size | Cause::Offset | Cause::RecordSize => heads.contains(&self),
-            Cause::FirstRoom => [Call::ReadArray, Call::ReadGroup, Call::ReadVdata].contains(&self) || self.packs(),
+            Cause::FirstRoom => self.packs() || tabled.contains(&self),
             Cause::SecondRoom => self == Call::ReadArray || self == Call::ReadVdata,
             Cause::ByRecord | Cause::ByField | Cause::Record | Cause::Field | Cause::Component => {
                 self == Call::ReadValue

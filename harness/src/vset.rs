@@ -116,11 +116,26 @@ fn cause_of_length(element: &Plain, length: u64) -> Cause {
 
 // Vdata heads.
 
+/// The head, with room for the numbers of its fields and for their names.
 pub fn read_vdata(image: &[u8], opening: &Opening, reference: u16, rooms: [usize; 2]) -> Reading<Found<Vdata>> {
+    read_head(image, opening, reference, |fields| judge_rooms(&[FIELD * fields, 2 * fields], &rooms))
+}
+
+/// The head, with room for so many fields.
+pub fn read_fields(image: &[u8], opening: &Opening, reference: u16, room: usize) -> Reading<Found<Vdata>> {
+    read_head(image, opening, reference, |fields| judge_rooms(&[fields], &[room]))
+}
+
+/// The head, where there is room for as many fields as it has.
+fn read_head(
+    image: &[u8],
+    opening: &Opening,
+    reference: u16,
+    judge_room: impl FnOnce(usize) -> Result<(), Refused>,
+) -> Reading<Found<Vdata>> {
     let element = plain(image, opening, HEAD, reference)?;
     let found = vdata_of(&element)?;
-    let Vdata { fields, name_lengths, .. } = &found.record;
-    judge_rooms(&[fields.len(), 2 * name_lengths.len()], &rooms)?;
+    judge_room(found.record.name_lengths.len())?;
     let cause = cause_of_length(&element, found.length);
     Ok((found, cause))
 }

@@ -143,21 +143,21 @@ pub fn list_group(image: &[u8], reference: u16) -> Result<Vec<Pair>, Error> {
 
 /// Reads the head of a Vdata.
 pub fn read_vdata(image: &[u8], reference: u16) -> Result<Vdata<'_>, Error> {
-    let (mut fields, mut names) = ([0; 4 * MOST_FIELDS], [0; 2 * MOST_FIELDS]);
-    let a = ffi::read_vdata(image, reference, &mut fields, &mut names);
+    let mut table = [ffi::Field::default(); MOST_FIELDS];
+    let a = ffi::read_fields(image, reference, &mut table);
     let count = granted(a.number, a.place, a.fields as usize)?;
-    let field = |(field, name): (&[u16], &[u32])| Field {
-        name: part(image, name[0].into(), name[1].into()),
-        number_type: field[0],
-        size: field[1],
-        offset: field[2],
-        order: field[3],
+    let field = |field: &ffi::Field| Field {
+        name: part(image, field.name_offset.into(), field.name_length.into()),
+        number_type: field.number_type,
+        size: field.size,
+        offset: field.offset,
+        order: field.order,
     };
     Ok(Vdata {
         interlace: a.interlace as u16,
         records: a.records as u32,
         record_size: a.record_size as u16,
-        fields: fields.chunks_exact(4).zip(names.chunks_exact(2)).take(count).map(field).collect(),
+        fields: table[..count].iter().map(field).collect(),
         name: part(image, a.tail.name_offset, a.tail.name_length),
         class: part(image, a.tail.class_offset, a.tail.class_length),
         extension: pair(a.tail.extension_tag, a.tail.extension_ref),

@@ -1,2 +1,4 @@
 pub mod Signs
 pub mod Bits
+pub mod Tables
+pub mod TableClaims

@@ -1,3 +1,4 @@
 pub mod Answers
 pub mod RecordAnswers
 pub mod VsetAnswers
+pub mod FieldTable

@@ -1,12 +1,15 @@
 -- The structs that the C functions of Vgroups and Vdatas return, as answers. Assumes nothing.
-use Prim.Native.Nat.{ℕ}
+use Prim.Native.Nat.{ℕ, _+_, _≤_}
 use mathlib.Core.Bool.{true, false, not}
 use mathlib.Core.List.{List, [], _∷_}
 use lib.Dec.{T}
 use lib.Ieee.{isNan}
 use Rattle.directory.specs.Answer.{Answer}
+use Rattle.directory.specs.Limits.{most-bytes}
 use Rattle.vset.specs.declared.tail.Ending.{Ending}
 use Rattle.vset.specs.declared.head.Start.{Start}
+use Rattle.vset.specs.declared.head.Answered.{Answered}
+use Rattle.vset.specs.declared.head.Answered.the-variants.{Values, Refused}
 use Rattle.vset.specs.declared.value.Value.{Value}
 use Rattle.vset.specs.declared.value.Value.the-variants.{Signed, Unsigned, Float32, Float64, Nan32, Nan64}
 use Rattle.hdf4.specs.declared.vset_calls.GroupAnswer.{GroupAnswer}
@@ -33,6 +36,11 @@ vdataAnswer r =
           r .interlace ∷ r .records ∷ r .«record_size» ∷ r .fields ∷ r .name ∷ r .«name_length» ∷ r .class ∷ r .«class_length»
           ∷ r .«extension_tag» ∷ r .«extension_ref» ∷ r .version ∷ r .more ∷ [];
     }
+
+-- the places of a head's name and class are places of an image
+abbrev pub NamesFit : Answered → Type 0
+NamesFit (Values start size h) = (start + h .tail .name ≤ most-bytes) × (start + h .tail .class ≤ most-bytes)
+NamesFit (Refused r) = Unit {0}
 
 abbrev pub valueAnswer : ValueAnswer → Answer
 valueAnswer r = record { number = r .number; place = r .place; values = r .kind ∷ r .bits ∷ [] }

@@ -1,5 +1,6 @@
 // The C interface. Each function takes slices as pointer and length, calls the layer that does the work, and returns a struct of
 // numbers: number and place first, then the values in order, zeros on refusal. include/hdf4.h declares them for C.
+mod field_table;
 mod record_calls;
 mod vset_calls;
 

@@ -16,13 +16,13 @@ ghost use Rattle.storage.specs.Copy.{laidOver};
 ghost use Rattle.records.specs.Reading.{recordBytes};
 ghost use Rattle.vset.specs.Limits.{group-tag, head-tag};
 ghost use Rattle.vset.specs.Groups.{groupOf, groupMembers, groupBytes, groupPackFault};
-ghost use Rattle.vset.specs.Heads.{headOf, headFields, headNames, startOf, headBytes, headPackFault};
+ghost use Rattle.vset.specs.Heads.{headOf, headFields, headNames, startOf, headNumbers, headBytes, headPackFault};
 ghost use Rattle.directory.specs.Answer.{grant};
 ghost use Rattle.vset.specs.Types.{complement, valueKind, valueBits};
 ghost use Rattle.vset.specs.Values.{valueOf};
 ghost use Rattle.vset.specs.Listings.{listingOf, pairsOf};
 ghost use Rattle.hdf4.specs.RecordAnswers.{Packs};
-ghost use Rattle.hdf4.specs.VsetAnswers.{groupAnswer, vdataAnswer, valueAnswer, HasBits, pairsAnswer, endingFrom, startFrom};
+ghost use Rattle.hdf4.specs.VsetAnswers.{groupAnswer, vdataAnswer, valueAnswer, HasBits, pairsAnswer, NamesFit, endingFrom, startFrom};
 
 #[repr(C)]
 pub struct GroupAnswer {
@@ -141,9 +141,20 @@ pub extern "C" fn hdf4_read_vdata(
     ensures fields { λ _. ⌜ now (fields .exit) ≡ laidOver (headOf (now (image .entry)) reference (length (now (fields .entry))) (length (now (names .entry)))) (headFields (recordBytes (now (image .entry)) head-tag reference)) (now (fields .entry)) ⌝ }
     ensures names { λ _. ⌜ now (names .exit) ≡ laidOver (headOf (now (image .entry)) reference (length (now (fields .entry))) (length (now (names .entry)))) (headNames (startOf (now (image .entry)) reference) (recordBytes (now (image .entry)) head-tag reference)) (now (names .entry)) ⌝ }
 {
-    let answered = head::read(image, reference, fields, names);
-    match answered {
-        head::Answered::Values { start, head } => VdataAnswer {
+    vdata_answer(head::read(image, reference, fields, names))
+}
+
+// The numbers of a head that was found, or its refusal.
+pub(crate) fn vdata_answer(found: head::Answered) -> VdataAnswer
+    requires { ⌜ NamesFit found ⌝ }
+    ensures { λ r. ⌜ vdataAnswer r ≡ headNumbers found ⌝ }
+{
+    match found {
+        head::Answered::Values {
+            start,
+            size: _,
+            head,
+        } => VdataAnswer {
             number: 0,
             place: 0,
             interlace: head.interlace as u64,

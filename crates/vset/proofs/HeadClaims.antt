@@ -1,5 +1,5 @@
 -- What a reader may rely on of Vdata heads: packing gives back the bytes that were read, and reading gives back what was packed. Assumes nothing.
-use Prim.Native.Nat.{ℕ, zero, suc, _+_, _*_, _-_, _<_, _≤_}
+use Prim.Native.Nat.{ℕ, zero, suc, _+_, _*_, _-_, _/_, _<_, _≤_, min}
 use native.Mathlib.Nat.{one-mul, mul-suc, mul-zero}
 use native.Mathlib.Omega.{arith}
 use mathlib.Core.Path.{_≡_, refl, sym, ap, _∙_}
@@ -30,8 +30,7 @@ use Rattle.records.proofs.Readings.{found-plain, record-granted, content-passes
 use Rattle.vset.specs.Limits.{head-tag, most-interlace, most-fields, only-version}
 use Rattle.vset.specs.Columns.{rows4, every}
 use Rattle.vset.specs.Tails.{tail, tailNumbers}
-use Rattle.vset.specs.Heads.{names, head, headIn, fieldAt, fieldsFrom, rowAt, fieldsIn, fieldsOf, fieldsFault, headFault, headFields, nameRows, headNames, startOf, headValues, headOf, namesApart, total, headBytes, headPackFault}
-use Rattle.vset.specs.Steps.{namesEnd}
+use Rattle.vset.specs.Heads.{names, head, headIn, fieldAt, fieldsFrom, rowAt, fieldsIn, fieldsOf, fieldsFault, headFault, headFields, nameRows, headNames, startOf, headValues, headWithin, headOf, namesApart, total, headBytes, headPackFault, namesEnd}
 use Rattle.vset.specs.declared.tail.Tail.{Tail}
 use Rattle.vset.specs.declared.tail.Ending.{Ending}
 use Rattle.vset.specs.declared.head.Head.{Head}
@@ -307,7 +306,7 @@ pub head-packs : (s : List ℕ) (ref a b : ℕ) → Bytes s → headOf s ref a b
     headBytes (startIn h) (headFields e) (every 1 2 (h .fields) (headNames 0 e)) (partsAt e (headNames 0 e))
     (part e (h .tail .name) (h .tail .«name_length»)) (part e (h .tail .class) (h .tail .«class_length»)) (endingOf (h .tail))
     ≡ part e 0 (h .tail .end)
-unfolding headOf bytesOf
+unfolding headWithin bytesOf
 head-packs s ref a b bytes granted =
     let g = record-granted 12 s head-tag ref headFault _ granted in
     pack-own (recordBytes s head-tag ref) (ap headFault (g .1 .found .viewed) ∙ g .1 .sound) (bytes-part s _ _ bytes)
@@ -552,10 +551,10 @@ module _ (b : Start) (rows lengths all name class : List ℕ) (x : Ending) (q : 
 
     -- what is answered where what is lent has room
     answer-back : (start fields-room names-room : ℕ) → 4 * length lengths ≤ fields-room → 2 * length lengths ≤ names-room
-        → inRoom 12 (leb (4 * headIn e .fields) fields-room && leb (2 * headIn e .fields) names-room) (grant (headValues start (headIn e))) ≡ grant (headValues start packed)
+        → inRoom 12 (leb (headIn e .fields) (min (fields-room / 4) (names-room / 2))) (grant (headValues start (headIn e))) ≡ grant (headValues start packed)
     answer-back start fields-room names-room fr nr =
-        ap (λ h. inRoom 12 (leb (4 * h .fields) fields-room && leb (2 * h .fields) names-room) (grant (headValues start h))) read-back
-        ∙ inRoom-enough 12 _ _ (and-both _ _ (le-leb _ _ fr) (le-leb _ _ nr))
+        ap (λ h. inRoom 12 (leb (h .fields) (min (fields-room / 4) (names-room / 2))) (grant (headValues start h))) read-back
+        ∙ inRoom-enough 12 _ _ (le-leb (length lengths) (min (fields-room / 4) (names-room / 2)) (omega (arith, fr, nr)))
 
 -- names by their places in an image that the record is a part of
 module _ (s : List ℕ) (start : ℕ) (e : List ℕ) (within : (a k : ℕ) → a + k ≤ length e → part s (start + a) k ≡ part e a k) where
@@ -601,7 +600,7 @@ pub head-reads : (b : Start) (rows lengths all name class : List ℕ) (x : Endin
     → (rest : List ℕ) → contentAt s p ≡ headBytes b rows lengths all name class x ++ rest
     → (fields-room names-room : ℕ) → 4 * length lengths ≤ fields-room → 2 * length lengths ≤ names-room
     → Back s ref fields-room names-room b rows lengths all name class x
-unfolding headOf
+unfolding headWithin
 head-reads b rows lengths all name class x q s ref p opens found plain rest is fields-room names-room fr nr =
     let n = length lengths in
     let f = found-plain s head-tag ref p opens found plain in

@@ -1,9 +1,9 @@
 -- Laws of reading heads of Vdatas: the rules of a record, and what a call answers and leaves in the lent lists. Assumes nothing.
-use Prim.Native.Nat.{ℕ, _+_, _*_, _<_, _≤_}
+use Prim.Native.Nat.{ℕ, _+_, _*_, _/_, _<_, _≤_, min}
 use native.Mathlib.Omega.{arith}
 use mathlib.Core.Path.{_≡_, refl, sym, ap, _∙_}
 use mathlib.Core.List.{List, [], _∷_}
-use mathlib.Core.Bool.{Bool, true, false, _&&_}
+use mathlib.Core.Bool.{true}
 use lib.ListN.{length, getD}
 use lib.Seq.{sets}
 use lib.Dec.{leb, eqb}
@@ -19,6 +19,7 @@ use Rattle.storage.specs.Copy.{laidOver}
 use Rattle.storage.specs.Elements.{startAt}
 use Rattle.storage.specs.View.{plainOf, viewOf}
 use Rattle.storage.specs.declared.view.Located.the-variants as located
+use Rattle.storage.proofs.Elements.{length-part}
 use Rattle.storage.proofs.Plain.{FoundPlain, reads-on, reads-positive}
 use Rattle.records.specs.Limits.{RECORD}
 use Rattle.records.specs.Layout.{extent}
@@ -26,7 +27,8 @@ use Rattle.records.specs.Reading.{recordBytes, inRoom}
 use Rattle.records.proofs.Readings.{record-refused, record-broken, record-passes, inRoom-enough, inRoom-short}
 use Rattle.records.proofs.Packings.{laid-kept, laid-list}
 use Rattle.vset.specs.Limits.{head-tag, only-version, most-interlace, most-fields}
-use Rattle.vset.specs.Heads.{head, headIn, fieldsOf, fieldsFault, headFault, headFields, headNames, startOf, headValues, headNumbers, headOf}
+use Rattle.vset.specs.Heads.{head, headIn, fieldsOf, fieldsFault, headFault, headFields, headNames, startOf, headValues, headNumbers, headWithin, headOf}
+use Rattle.vset.specs.Steps.{HeadHeld, Held}
 use Rattle.vset.specs.declared.head.Head.{Head}
 use Rattle.vset.specs.declared.head.Answered.{Answered}
 use Rattle.vset.specs.declared.head.Answered.the-variants.{Values, Refused}
@@ -92,65 +94,89 @@ module _ (e : List ℕ) where
 pub start-low : (s : List ℕ) (tag ref p o n : ℕ) → FoundPlain s tag ref p o n → o ≤ most-bytes
 start-low s tag ref p o n f = omega (arith, f .inside, opens-kept s (f .sound) .short)
 
--- two rooms
-both-fail : (a b : Bool) → b ≡ false → a && b ≡ false
-both-fail true b e = e
-both-fail false b e = refl
+-- what is found
+module _ (s : List ℕ) (ref room : ℕ) where
+  abbrev pub Finds : Answered → Type 0
+  Finds r = (headNumbers r ≡ headWithin s ref room) × Held s ref room r
+
+  refused : (n p : ℕ) → headWithin s ref room ≡ refuse 12 n p → (n ≡ 0 → ⊥) → Finds (Refused (record { number = n; place = p }))
+  refused n p e z = (sym e, z)
+
+  pub unlocated : (x : Refusal) → plainOf s head-tag ref ≡ located.Refused x → Finds (Refused x)
+  unfolding headWithin
+  unlocated x e = refused _ _ (record-refused 12 s head-tag ref headFault _ x e) (reads-positive s head-tag ref x e)
+
+  -- the element was found, and e is its bytes
+  module _ (p o n : ℕ) (f : FoundPlain s head-tag ref p o n) (e : List ℕ) (is : e ≡ part s o n) where
+    pub broken : (k : ℕ) → k ≡ headFault e → (k ≡ 0 → ⊥) → Finds (Refused (record { number = k; place = p }))
+    unfolding headWithin
+    broken k q z =
+        let r : k ≡ headFault (part s o n) = q ∙ ap headFault is in
+        refused k p (record-broken 12 s head-tag ref headFault _ p o n f (λ y. z (r ∙ y)) ∙ rw r) z
+
+    start-is : startOf s ref ≡ o
+    unfolding startOf viewOf
+    start-is = ap (λ a. getD (a .values) 0 0) (reads-on s head-tag ref p o n f 2 (λ q. grant (startAt s q ∷ sizeAt s q ∷ []))) ∙ sym (f .starts)
+
+    module _ (sound : headFault e ≡ 0) (h : Head) (parsed : h ≡ headIn e) where
+      goes : headWithin s ref room ≡ inRoom 12 (leb (h .fields) room) (grant (headValues o h))
+      unfolding headWithin
+      goes = record-passes 12 s head-tag ref headFault _ p o n f (ap headFault (sym is) ∙ sound) ∙ rw (parsed, is, f .content, f .starts)
+
+      pub small : room < h .fields → Finds (Refused (record { number = SMALL; place = 0 }))
+      small l = refused SMALL 0 (goes ∙ inRoom-short 12 _ _ (lt-leb _ _ l)) (λ z. omega arith)
+
+      pub finds : h .fields ≤ room → Finds (Values o n h)
+      finds l =
+          let k = head-passed e sound in
+          let long : length e ≡ n = ap length is ∙ length-part s o n (f .inside) in (
+            sym (goes ∙ inRoom-enough 12 _ _ (le-leb _ _ l)),
+            record {
+              short = opens-kept s (f .sound) .short;
+              inside = f .inside;
+              starts = start-is;
+              bytes-are = f .viewed ∙ sym (f .content);
+              parsed = parsed ∙ ap headIn is;
+              last = rw parsed (omega (arith, k .inside, long));
+              few = rw parsed (k .few);
+              fits = l;
+            },
+          )
 
 -- what is answered and what is left in the lent lists
-module _ (s : List ℕ) (ref : ℕ) (fields names : List ℕ) where
-  abbrev pub answer : Answer
-  answer = headOf s ref (length fields) (length names)
-
+module _ (s : List ℕ) (ref : ℕ) (fields names : List ℕ) (room : ℕ) (rooms : room ≡ min (length fields / 4) (length names / 2)) where
   abbrev pub Leaves : Answered → List ℕ → List ℕ → Type 0
   Leaves r after also =
       (headNumbers r ≡ headOf s ref (length fields) (length names))
       × ((after ≡ laidOver (headOf s ref (length fields) (length names)) (headFields (recordBytes s head-tag ref)) fields)
       × (also ≡ laidOver (headOf s ref (length fields) (length names)) (headNames (startOf s ref) (recordBytes s head-tag ref)) names))
 
-  refused : (n p : ℕ) → headOf s ref (length fields) (length names) ≡ refuse 12 n p → (n ≡ 0 → ⊥) → Leaves (Refused (record { number = n; place = p })) fields names
-  refused n p e z =
-      let y : headOf s ref (length fields) (length names) .number ≡ 0 → ⊥ = λ q. z (sym (ap (λ a. a .number) e) ∙ q) in
-      (sym e, (laid-kept _ _ fields y, laid-kept _ _ names y))
+  pub enough : (n : ℕ) → n ≤ room → (4 * n ≤ length fields) × (2 * n ≤ length names)
+  enough n h = (omega (arith, rooms), omega (arith, rooms))
 
-  pub unlocated : (x : Refusal) → plainOf s head-tag ref ≡ located.Refused x → Leaves (Refused x) fields names
-  unfolding headOf
-  unlocated x e = refused _ _ (record-refused 12 s head-tag ref headFault _ x e) (reads-positive s head-tag ref x e)
+  module _ (r : Answered) (answers : headNumbers r ≡ headWithin s ref room) where
+    same : headNumbers r ≡ headOf s ref (length fields) (length names)
+    same = answers ∙ ap (headWithin s ref) rooms
 
-  -- the element was found, and e is its bytes
-  module _ (p o n : ℕ) (f : FoundPlain s head-tag ref p o n) (e : List ℕ) (is : e ≡ part s o n) where
-    pub broken : (k : ℕ) → k ≡ headFault e → (k ≡ 0 → ⊥) → Leaves (Refused (record { number = k; place = p })) fields names
-    unfolding headOf
-    broken k q z =
-        let r : k ≡ headFault (part s o n) = q ∙ ap headFault is in
-        refused k p (record-broken 12 s head-tag ref headFault _ p o n f (λ y. z (r ∙ y)) ∙ rw r) z
+    pub left : (x : Refusal) → r ≡ Refused x → Held s ref room r → Leaves r fields names
+    left x e held =
+        let number : headNumbers r .number ≡ x .number = ap (λ a. headNumbers a .number) e in
+        let held′ : Held s ref room (Refused x) = rw e at held in
+        let y : headOf s ref (length fields) (length names) .number ≡ 0 → ⊥ = λ q. held′ (sym number ∙ ap (λ a. a .number) same ∙ q) in
+        (same, (laid-kept _ _ fields y, laid-kept _ _ names y))
 
-    starts : startOf s ref ≡ o
-    unfolding startOf viewOf
-    starts = ap (λ a. getD (a .values) 0 0) (reads-on s head-tag ref p o n f 2 (λ q. grant (startAt s q ∷ sizeAt s q ∷ []))) ∙ sym (f .starts)
-
-    module _ (sound : headFault e ≡ 0) (h : Head) (parsed : h ≡ headIn e) where
-      goes : headOf s ref (length fields) (length names) ≡ inRoom 12 (leb (4 * h .fields) (length fields) && leb (2 * h .fields) (length names)) (grant (headValues o h))
-      unfolding headOf
-      goes = record-passes 12 s head-tag ref headFault _ p o n f (ap headFault (sym is) ∙ sound) ∙ rw (parsed, is, f .content, f .starts)
-
-      pub small-fields : length fields < 4 * h .fields → Leaves (Refused (record { number = SMALL; place = 0 })) fields names
-      small-fields l = refused SMALL 0 (goes ∙ inRoom-short 12 _ _ (simp (lt-leb _ _ l))) (λ z. omega arith)
-
-      pub small-names : length names < 2 * h .fields → Leaves (Refused (record { number = SMALL; place = 0 })) fields names
-      small-names l = refused SMALL 0 (goes ∙ inRoom-short 12 _ _ (both-fail (leb (4 * h .fields) (length fields)) _ (lt-leb _ _ l))) (λ z. omega arith)
-
-      pub listed : 4 * h .fields ≤ length fields → 2 * h .fields ≤ length names → (after also : List ℕ)
-          → after ≡ sets fields 0 (headFields e) → also ≡ sets names 0 (headNames o e) → Leaves (Values o h) after also
-      listed l m after also q r =
-          let a = goes ∙ inRoom-enough 12 _ _ (simp (le-leb _ _ l, le-leb _ _ m)) in
-          let b : recordBytes s head-tag ref ≡ e = f .viewed ∙ sym (is ∙ f .content) in
-          let lf : 4 * headIn e .fields ≤ length fields = rw parsed at l in
-          let ln : 2 * headIn e .fields ≤ length names = rw parsed at m in
-          let count : length (headNames o e) ≡ 2 * headIn e .fields = ap length (names-are o e) ∙ length-names o e (headIn e .fields) (10 + 8 * headIn e .fields) in (
-            sym a,
+    module _ (start size : ℕ) (h : Head) (found : r ≡ Values start size h) (held : HeadHeld s ref room start size h) (e : List ℕ) (is : e ≡ part s start size) where
+      pub listed : (after also : List ℕ) → after ≡ sets fields 0 (headFields e) → also ≡ sets names 0 (headNames start e) → Leaves (Values start size h) after also
+      listed after also q t =
+          let z : headOf s ref (length fields) (length names) .number ≡ 0 = sym (ap (λ a. a .number) same) ∙ ap (λ a. headNumbers a .number) found in
+          let b : recordBytes s head-tag ref ≡ e = held .bytes-are ∙ sym is in
+          let parsed : h ≡ headIn e = held .parsed ∙ ap headIn (sym is) in
+          let lf : 4 * headIn e .fields ≤ length fields = rw parsed at (enough _ (held .fits) .0) in
+          let ln : 2 * headIn e .fields ≤ length names = rw parsed at (enough _ (held .fits) .1) in
+          let count : length (headNames start e) ≡ 2 * headIn e .fields = ap length (names-are start e) ∙ length-names start e (headIn e .fields) (10 + 8 * headIn e .fields) in (
+            ap headNumbers (sym found) ∙ same,
             (
-              laid-list _ _ fields (ap (λ y. y .number) a) (rw b (omega (arith, length-fields e))) after (rw b q),
-              laid-list _ _ names (ap (λ y. y .number) a) (rw (starts, b) (omega (arith, count))) also (rw (starts, b) r),
+              laid-list _ _ fields z (rw b (omega (arith, length-fields e))) after (rw b q),
+              laid-list _ _ names z (rw (held .starts, b) (omega (arith, count))) also (rw (held .starts, b) t),
             ),
           )

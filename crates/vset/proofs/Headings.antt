@@ -13,10 +13,11 @@ use Rattle.records.specs.Layout.{Layout, read, extent, numbersAt}
 use Rattle.records.proofs.Layouts.{length-numbersAt, numbersAt-next}
 use Rattle.vset.specs.Columns.{rows4}
 use Rattle.vset.specs.Tails.{tail}
-use Rattle.vset.specs.Heads.{names, head, headIn, fieldAt, headFields, nameRows, headNames}
-use Rattle.vset.specs.Steps.{namesEnd}
+use Rattle.vset.specs.Heads.{names, head, headIn, fieldAt, headFields, nameRows, headNames, namesEnd, namedField}
 use Rattle.vset.specs.declared.tail.Tail.{Tail}
 use Rattle.vset.specs.declared.head.Head.{Head}
+use Rattle.vset.specs.declared.head.NamedField.{NamedField}
+use Rattle.vset.specs.declared.field.Numbers.{Numbers}
 use Rattle.vset.proofs.Rows.{length-rows4}
 use Rattle.vset.proofs.Tailings.{tailIn, read-tail, extent-tail}
 
@@ -47,6 +48,14 @@ names-next e n i end h = let m : n - i ≡ suc (n - (i + 1)) = omega arith in rw
 pub names-done : (e : List ℕ) (n i end : ℕ) → n ≤ i → end ≡ namesEnd e (n - i) end
 unfolding namesEnd
 names-done e n i end h = let m : n - i ≡ 0 = omega arith in rw m
+
+-- names one after the other
+pub names-split : (i n : ℕ) (e : List ℕ) (at : ℕ) → namesEnd e (i + n) at ≡ namesEnd e n (namesEnd e i at)
+unfolding namesEnd
+names-split zero n e at = let z : 0 + n ≡ n = omega arith in ap (λ k. namesEnd e k at) z
+names-split (suc i) n e at =
+    let z : suc i + n ≡ suc (i + n) = omega arith in
+    ap (λ k. namesEnd e k at) z ∙ names-split i n e (at + 2 + be 2 e at)
 
 -- ---- A record
 
@@ -136,6 +145,14 @@ module _ (e : List ℕ) where
       ≡ record { code = be 2 e (10 + 2 * i); size = be 2 e (10 + 2 * n + 2 * i); offset = be 2 e (10 + 4 * n + 2 * i); order = be 2 e (10 + 6 * n + 2 * i) }
   field-is n i q = let m : be 2 e 8 ≡ n = sym (q ∙ fields-count) in ap (λ h. fieldAt e h i) head-is ∙ rw m
 
+  -- the field of an index with its name
+  pub named-field : (n i : ℕ) (f : Numbers) (at k : ℕ) → n ≡ be 2 e 8 → f ≡ fieldAt e (headIn e) i → at ≡ namesEnd e i (10 + 8 * n) → k ≡ be 2 e at
+      → _≡_ {A = NamedField} (record { numbers = f; name = at + 2; length = k }) (namedField e i)
+  named-field n i f at k q r t u =
+      let places : 10 + 8 * n ≡ headIn e .names = ap (λ m. 10 + 8 * m) q ∙ ap (λ h. h .names) (sym head-is) in
+      let a : at ≡ namesEnd e i (headIn e .names) = t ∙ ap (namesEnd e i) places in
+      rw (r, u, a)
+
 -- ---- The list of fields
 
 -- fields from the i-th on
@@ -161,13 +178,13 @@ length-fields e =
     ∙ length-rows4 (numbersAt 2 n e 10) (numbersAt 2 n e (10 + 2 * n)) (numbersAt 2 n e (10 + 4 * n)) (numbersAt 2 n e (10 + 6 * n)) n
     (record { first = length-numbersAt 2 n e 10; second = length-numbersAt 2 n e (10 + 2 * n); third = length-numbersAt 2 n e (10 + 4 * n); fourth = length-numbersAt 2 n e (10 + 6 * n) })
 
-row-next : (e : List ℕ) (n i : ℕ) → i < n
+pub row-next : (e : List ℕ) (n i : ℕ) → i < n
     → fieldsAfter e n i ≡ be 2 e (10 + 2 * i) ∷ be 2 e (10 + 2 * n + 2 * i) ∷ be 2 e (10 + 4 * n + 2 * i) ∷ be 2 e (10 + 6 * n + 2 * i) ∷ fieldsAfter e n (i + 1)
 unfolding rows4
 row-next e n i h =
     rw (numbersAt-next 2 n e 10 i h, numbersAt-next 2 n e (10 + 2 * n) i h, numbersAt-next 2 n e (10 + 4 * n) i h, numbersAt-next 2 n e (10 + 6 * n) i h)
 
-row-none : (e : List ℕ) (n i : ℕ) → n ≤ i → fieldsAfter e n i ≡ []
+pub row-none : (e : List ℕ) (n i : ℕ) → n ≤ i → fieldsAfter e n i ≡ []
 unfolding rows4 numbersAt
 row-none e n i h = let z : n - i ≡ 0 = omega arith in rw z
 

@@ -1,14 +1,15 @@
 -- The names that an answer tells of lie inside the image, which has a limit. Assumes nothing.
-use Prim.Native.Nat.{ℕ, _+_, _*_, _≤_}
+use Prim.Native.Nat.{ℕ, _+_, _*_, _-_, _<_, _≤_}
 use native.Mathlib.Nat.{suc-ne-zero}
 use native.Mathlib.Omega.{arith}
 use mathlib.Core.Path.{_≡_, refl, sym, ap, _∙_}
 use mathlib.Core.Logic.{inl, inr}
-use mathlib.Core.Bool.{Bool, true, false, _&&_}
+use mathlib.Core.Bool.{Bool}
 use mathlib.Core.List.{List, [], _∷_}
 use lib.ListN.{length, getD}
 use lib.Dec.{leb}
 use borrow.Author.Tests.{leb-true}
+use Rattle.wire.specs.Numbers.{be}
 use Rattle.directory.specs.Limits.{most-bytes}
 use Rattle.directory.specs.Answer.{Answer, grant}
 use Rattle.directory.specs.Slots.{sizeAt, contentAt}
@@ -23,12 +24,12 @@ use Rattle.records.specs.Reading.{recordOf, inRoom}
 use Rattle.records.proofs.Readings.{record-granted, inRoom-enough, inRoom-short}
 use Rattle.vset.specs.Limits.{group-tag, head-tag}
 use Rattle.vset.specs.Groups.{group, groupFault, groupValues, groupOf}
-use Rattle.vset.specs.Heads.{head, headIn, headFault, headValues, headOf}
+use Rattle.vset.specs.Heads.{head, headIn, headFault, headValues, headWithin, namesEnd, namedField}
 use Rattle.vset.specs.declared.group.Group.{Group}
 use Rattle.vset.specs.declared.head.Head.{Head}
 use Rattle.vset.proofs.Tailings.{tailIn}
 use Rattle.vset.proofs.Groupings.{groupIn, group-ends, tail-after}
-use Rattle.vset.proofs.Headings.{placed, head-is, head-ends}
+use Rattle.vset.proofs.Headings.{names-low, names-split, placed, head-is, head-ends, fields-count}
 
 -- name and class stand before the end
 tail-order : (e : List ℕ) (at : ℕ) → (tailIn e at .name ≤ tailIn e at .end) × (tailIn e at .class ≤ tailIn e at .end)
@@ -70,11 +71,11 @@ group-names s ref room start g q =
       omega (arith, ap (λ a. getD (a .values) 3 0) is, placed-inside s group-tag ref p (w .1 .found) (groupIn e .tail .class) (groupIn e .tail .end) c last),
     )
 
-pub head-names : (s : List ℕ) (ref a b start : ℕ) (h : Head) → headOf s ref a b ≡ grant (headValues start h)
+pub head-names : (s : List ℕ) (ref room start : ℕ) (h : Head) → headWithin s ref room ≡ grant (headValues start h)
     → (start + h .tail .name ≤ most-bytes) × (start + h .tail .class ≤ most-bytes)
-unfolding headOf headFault
-head-names s ref a b start h q =
-    let answer : ℕ → Answer = λ p. inRoom 12 (leb (4 * headIn (contentAt s p) .fields) a && leb (2 * headIn (contentAt s p) .fields) b) (grant (headValues (startAt s p) (headIn (contentAt s p)))) in
+unfolding headWithin headFault
+head-names s ref room start h q =
+    let answer : ℕ → Answer = λ p. inRoom 12 (leb (headIn (contentAt s p) .fields) room) (grant (headValues (startAt s p) (headIn (contentAt s p)))) in
     let w = record-granted 12 s head-tag ref headFault answer (ap (λ x. x .number) q) in
     let p = w .0 in
     let e = contentAt s p in
@@ -87,3 +88,16 @@ head-names s ref a b start h q =
       omega (arith, ap (λ x. getD (x .values) 4 0) is, placed-inside s head-tag ref p (w .1 .found) (headIn e .tail .name) (headIn e .tail .end) n last),
       omega (arith, ap (λ x. getD (x .values) 6 0) is, placed-inside s head-tag ref p (w .1 .found) (headIn e .tail .class) (headIn e .tail .end) c last),
     )
+
+-- the name of a field starts before the head's end
+pub name-inside : (e : List ℕ) (i : ℕ) → i < headIn e .fields → namedField e i .name ≤ headIn e .tail .end
+unfolding read
+name-inside e i h =
+    let n = be 2 e 8 in
+    let at = 10 + 8 * n in
+    let many : i < n = rw fields-count at h in
+    let places : headIn e .names ≡ at = ap (λ x. x .names) (head-is e) in
+    let sum : i + (n - i) ≡ n = omega arith in
+    let split : namesEnd e n at ≡ namesEnd e (n - i) (namesEnd e i at) = ap (λ k. namesEnd e k at) (sym sum) ∙ names-split i (n - i) e at in
+    let ends : headIn e .tail .end ≡ tailIn e (namesEnd e n at) .end = ap (λ x. x .tail .end) (head-is e) in
+    rw (places, ends) (omega (arith, split, names-low (n - i) e (namesEnd e i at)))

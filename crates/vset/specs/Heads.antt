@@ -1,7 +1,7 @@
 -- Heads of Vdatas, tag 1962, after document 01, "Records". Assumes nothing.
-use Prim.Native.Nat.{ℕ, zero, suc, _+_, _*_}
+use Prim.Native.Nat.{ℕ, zero, suc, _+_, _*_, _/_, min}
 use mathlib.Core.List.{List, [], _∷_, _++_}
-use mathlib.Core.Bool.{Bool, true, false, not, _&&_}
+use mathlib.Core.Bool.{Bool, true, false, _&&_}
 use lib.ListN.{length, getD, take, drop}
 use lib.Dec.{leb, eqb}
 use Rattle.wire.specs.Numbers.{be}
@@ -21,6 +21,7 @@ use Rattle.vset.specs.declared.tail.Ending.{Ending}
 use Rattle.vset.specs.declared.field.Numbers.{Numbers}
 use Rattle.vset.specs.declared.head.Head.{Head}
 use Rattle.vset.specs.declared.head.Start.{Start}
+use Rattle.vset.specs.declared.head.NamedField.{NamedField}
 use Rattle.vset.specs.declared.head.Answered.{Answered}
 use Rattle.vset.specs.declared.head.Answered.the-variants.{Values, Refused}
 
@@ -138,15 +139,31 @@ abbrev pub headValues : ℕ → Head → List ℕ
 headValues start h = h .interlace ∷ h .records ∷ h .«record_size» ∷ h .fields ∷ tailValues start (h .tail)
 
 abbrev pub headNumbers : Answered → Answer
-headNumbers (Values start h) = grant (headValues start h)
+headNumbers (Values start size h) = grant (headValues start h)
 headNumbers (Refused r) = refuse 12 (r .number) (r .place)
 
--- where the lent lists have room for four numbers and for two a field
-unfoldable pub headOf : List ℕ → ℕ → ℕ → ℕ → Answer
-headOf s ref fields names =
+-- where there is room for so many fields
+unfoldable pub headWithin : List ℕ → ℕ → ℕ → Answer
+headWithin s ref room =
     recordOf 12 s head-tag ref headFault
-    (λ p. let h = headIn (contentAt s p) in
-    inRoom 12 (leb (4 * h .fields) fields && leb (2 * h .fields) names) (grant (headValues (startAt s p) h)))
+    (λ p. let h = headIn (contentAt s p) in inRoom 12 (leb (h .fields) room) (grant (headValues (startAt s p) h)))
+
+-- where the lent lists have room for four numbers and for two a field
+abbrev pub headOf : List ℕ → ℕ → ℕ → ℕ → Answer
+headOf s ref fields names = headWithin s ref (min (fields / 4) (names / 2))
+
+-- ---- One field with its name
+
+-- where so many names end
+unfoldable pub namesEnd : List ℕ → ℕ → ℕ → ℕ
+namesEnd e zero at = at
+namesEnd e (suc n) at = namesEnd e n (at + 2 + be 2 e at)
+
+-- the field of an index: its numbers, and where its name stands in the record and how long it is
+abbrev pub namedField : List ℕ → ℕ → NamedField
+namedField e i =
+    let at = namesEnd e i (headIn e .names) in
+    record { numbers = fieldAt e (headIn e) i; name = at + 2; length = be 2 e at }
 
 -- ---- Packing
 

@@ -1,24 +1,29 @@
 -- What the functions behind the calls take and leave. Assumes nothing.
-use Prim.Native.Nat.{ℕ, zero, suc, _+_, _*_, _<_}
+use Prim.Native.Nat.{ℕ, zero, suc, _+_, _*_, _<_, _≤_}
 use mathlib.Core.Path.{_≡_}
 use mathlib.Core.List.{List, [], _∷_, _++_}
 use mathlib.Core.Bool.{Bool, _&&_}
 use lib.ListN.{length, take, drop}
 use lib.Dec.{leb, eqb}
-use Rattle.wire.specs.Numbers.{be, bytes, put}
-use Rattle.directory.specs.Limits.{ABSENT}
+use Rattle.wire.specs.Numbers.{bytes, put, part}
+use Rattle.directory.specs.Limits.{most-bytes, ABSENT}
 use Rattle.directory.specs.Search.{must, Hit, hit, miss}
 use Rattle.directory.specs.Slots.{sizeAt, contentAt}
 use Rattle.storage.specs.Elements.{startAt, plainFault}
 use Rattle.storage.specs.declared.view.Located.{Located}
 use Rattle.storage.specs.declared.view.Located.the-variants as located
 use Rattle.records.specs.Limits.{RECORD}
-use Rattle.vset.specs.Limits.{TYPE}
+use Rattle.records.specs.Reading.{recordBytes}
+use Rattle.vset.specs.Limits.{head-tag, most-fields, TYPE}
 use Rattle.vset.specs.Types.{widthOf}
 use Rattle.vset.specs.Groups.{groupFault}
 use Rattle.vset.specs.Listings.{Listing}
+use Rattle.vset.specs.Heads.{headIn, startOf}
 use Rattle.vset.specs.declared.field.Numbers.{Numbers}
 use Rattle.vset.specs.declared.head.Judged.{Judged}
+use Rattle.vset.specs.declared.head.Head.{Head}
+use Rattle.vset.specs.declared.head.Answered.{Answered}
+use Rattle.vset.specs.declared.head.Answered.the-variants.{Values, Refused}
 use Rattle.vset.specs.declared.listing.Walked.{Walked}
 
 -- the numbers of a field have 16 bits
@@ -45,11 +50,6 @@ judgeAll j (f ∷ fs) = judgeAll (judge j f) fs
 unfoldable pub verdict : Judged → ℕ → ℕ
 verdict j record-size = must (j .orders) RECORD (must (j .types) TYPE (must (j .sizes && eqb record-size (j .sum)) RECORD 0))
 
--- where so many names end
-unfoldable pub namesEnd : List ℕ → ℕ → ℕ → ℕ
-namesEnd e zero at = at
-namesEnd e (suc n) at = namesEnd e n (at + 2 + be 2 e at)
-
 -- the names, each with its length before it
 unfoldable pub namesBytes : List ℕ → List ℕ → List ℕ
 namesBytes [] all = []
@@ -61,6 +61,21 @@ pub record Walks (l : Listing) (at : ℕ) (table after : List ℕ) (r : Walked) 
   pub number : r .number ≡ l .number
   pub place : r .place ≡ l .place
   pub leaves : after ≡ put table at (l .pairs)
+
+-- a head that was found: its record's place and bytes, which break no rule, and room for its fields
+pub record HeadHeld (s : List ℕ) (ref room start size : ℕ) (h : Head) : Type 0 where
+  pub short : length s ≤ most-bytes
+  pub inside : start + size ≤ length s
+  pub starts : startOf s ref ≡ start
+  pub bytes-are : recordBytes s head-tag ref ≡ part s start size
+  pub parsed : h ≡ headIn (part s start size)
+  pub last : h .tail .end ≤ size
+  pub few : h .fields ≤ most-fields
+  pub fits : h .fields ≤ room
+
+abbrev pub Held : List ℕ → ℕ → ℕ → Answered → Type 0
+Held s ref room (Values start size h) = HeadHeld s ref room start size h
+Held s ref room (Refused r) = r .number ≡ 0 → ⊥
 
 -- the group at what a lookup found, or its first fault
 unfoldable pub groupAt : List ℕ → Hit → Located

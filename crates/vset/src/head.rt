@@ -52,9 +52,20 @@ pub struct Start {
     pub record_size: u16,
 }
 
-// A head, and where its record starts in the image.
+// A field: its numbers, and where its name stands in the record and how long it is.
+pub struct NamedField {
+    pub numbers: Numbers,
+    pub name: usize,
+    pub length: usize,
+}
+
+// A head, where its record starts in the image, and how many bytes that has.
 pub enum Answered {
-    Values { start: usize, head: Head },
+    Values {
+        start: usize,
+        size: usize,
+        head: Head,
+    },
     Refused(Refusal),
 }
 
@@ -120,7 +131,7 @@ fn verdict(j: Judged, record_size: usize) -> usize
 // Where the names of so many fields, from a place of a record on, end.
 fn skip_names(part: &[u8], at: usize, count: usize) -> usize
     requires { ⌜ (at ≤ 1048576) × (count < 65536) ⌝ }
-    ensures { λ r. ⌜ (r ≡ Steps.namesEnd (now (part .entry)) count at) × (r ≤ 8589934592) ⌝ }
+    ensures { λ r. ⌜ (r ≡ Heads.namesEnd (now (part .entry)) count at) × (r ≤ 8589934592) ⌝ }
 {
     let mut end = at;
     let mut i = 0;
@@ -152,7 +163,7 @@ pub(crate) fn parse(part: &[u8]) -> Head
 
 // The numbers of the field of an index, in a record with so many fields.
 pub(crate) fn field_at(part: &[u8], fields: usize, i: usize) -> Numbers
-    requires { ⌜ (fields ≡ Heads.headIn (now part) .fields) × (i < fields) ⌝ }
+    requires { ⌜ (fields ≡ Heads.headIn (now part) .fields) × (i < fields + 65536) ⌝ }
     ensures { λ r. ⌜ (r ≡ Heads.fieldAt (now (part .entry)) (Heads.headIn (now (part .entry))) i) × Steps.Narrow r ⌝ }
 {
     Numbers {
@@ -234,11 +245,23 @@ fn put_names(part: &[u8], start: usize, fields: usize, list: &mut [u32])
     }
 }
 
-// Reads the head of a reference: its numbers, four numbers a field to a lent list, and where the names stand to another.
-pub fn read(image: &[u8], reference: u16, fields: &mut [u16], names: &mut [u32]) -> Answered
-    ensures answer { λ r. ⌜ Heads.headNumbers r ≡ Heads.headOf (now (image .entry)) reference (length (now (fields .entry))) (length (now (names .entry))) ⌝ }
-    ensures fields { λ _. ⌜ now (fields .exit) ≡ laidOver (Heads.headOf (now (image .entry)) reference (length (now (fields .entry))) (length (now (names .entry)))) (Heads.headFields (recordBytes (now (image .entry)) Limits.head-tag reference)) (now (fields .entry)) ⌝ }
-    ensures names { λ _. ⌜ now (names .exit) ≡ laidOver (Heads.headOf (now (image .entry)) reference (length (now (fields .entry))) (length (now (names .entry)))) (Heads.headNames (Heads.startOf (now (image .entry)) reference) (recordBytes (now (image .entry)) Limits.head-tag reference)) (now (names .entry)) ⌝ }
+// The field of an index, in a record.
+pub fn field(part: &[u8], i: u16) -> NamedField
+    ensures { λ r. ⌜ (r ≡ Heads.namedField (now (part .entry)) i) × Steps.Narrow (r .numbers) × (r .length < 65536) ⌝ }
+{
+    let fields = wire::read16(part, 8);
+    let at = skip_names(part, 10 + 8 * fields, i as usize);
+    NamedField {
+        numbers: field_at(part, fields, i as usize),
+        name: at + 2,
+        length: wire::read16(part, at),
+    }
+}
+
+// Finds the head of a reference, where there is room for so many fields.
+pub fn find(image: &[u8], reference: u16, room: usize) -> Answered
+    ensures answer { λ r. ⌜ Heads.headNumbers r ≡ Heads.headWithin (now (image .entry)) reference room ⌝ }
+    ensures held { λ r. ⌜ Steps.Held (now (image .entry)) reference room r ⌝ }
 {
     let located = storage::view::find_plain(image, HEAD_TAG, reference);
     let Located::Plain {
@@ -258,24 +281,34 @@ pub fn read(image: &[u8], reference: u16, fields: &mut [u16], names: &mut [u32])
         });
     }
     let head = parse(part);
-    if fields.len() < 4 * head.fields {
+    if room < head.fields {
         return Answered::Refused(Refusal {
             number: SMALL,
             place: 0,
         });
     }
-    if names.len() < 2 * head.fields {
-        return Answered::Refused(Refusal {
-            number: SMALL,
-            place: 0,
-        });
-    }
-    put_fields(part, head.fields, fields);
-    put_names(part, offset, head.fields, names);
     Answered::Values {
         start: offset,
+        size: length,
         head,
     }
+}
+
+// Reads the head of a reference: its numbers, four numbers a field to a lent list, and where the names stand to another.
+pub fn read(image: &[u8], reference: u16, fields: &mut [u16], names: &mut [u32]) -> Answered
+    ensures answer { λ r. ⌜ Heads.headNumbers r ≡ Heads.headOf (now (image .entry)) reference (length (now (fields .entry))) (length (now (names .entry))) ⌝ }
+    ensures fields { λ _. ⌜ now (fields .exit) ≡ laidOver (Heads.headOf (now (image .entry)) reference (length (now (fields .entry))) (length (now (names .entry)))) (Heads.headFields (recordBytes (now (image .entry)) Limits.head-tag reference)) (now (fields .entry)) ⌝ }
+    ensures names { λ _. ⌜ now (names .exit) ≡ laidOver (Heads.headOf (now (image .entry)) reference (length (now (fields .entry))) (length (now (names .entry)))) (Heads.headNames (Heads.startOf (now (image .entry)) reference) (recordBytes (now (image .entry)) Limits.head-tag reference)) (now (names .entry)) ⌝ }
+{
+    let room = wire::least(fields.len() / 4, names.len() / 2);
+    let found = find(image, reference, room);
+    let Answered::Values { start, size, head } = found else {
+        return found;
+    };
+    let part = &image[start..start + size];
+    put_fields(part, head.fields, fields);
+    put_names(part, start, head.fields, names);
+    found
 }
 
 // The numbers of the field of a row, in rows of type, size, offset and order.

@@ -2,10 +2,10 @@
 //! The library must give these numbers; that the reader gives the same ones is compared on the same files.
 
 use crate::compare::compare_records;
-use crate::ffi::records as library;
+use crate::ffi::records::{self as library, Field};
 use crate::files;
 use crate::random::Random;
-use crate::reader::FIRST_BYTES;
+use crate::reader::{FIRST_BYTES, SMALL};
 use crate::records::{DEEP, NO_VALUE};
 use crate::tally::Tally;
 use crate::vset::{DATA, GROUP, HEAD};
@@ -26,7 +26,7 @@ const TYPES: [(u16, usize, u64); 10] = [
 
 /// Holds all cases against the library; answers how many there are.
 pub fn check(random: &mut Random, tally: &mut Tally) -> Result<usize, String> {
-    let cases = [number_types, dimension, array, group, listing, deep_listing, types, interlaces, extremes];
+    let cases = [number_types, dimension, array, group, listing, deep_listing, fields, types, interlaces, extremes];
     for case in cases {
         let image = case()?;
         compare_records(&image, random, tally).map_err(|difference| difference.to_string())?;
@@ -96,6 +96,37 @@ fn deep_listing() -> Case {
     let a = library::list_group(&image, 3, &mut list);
     same("too deep a listing", [a.number, a.place, a.pairs], [DEEP, 783, 0])?;
     same("list of too deep a listing", list, [9; 100])?;
+    Ok(image)
+}
+
+/// Four fields of other types and orders, in a table of five entries and in one of three.
+fn fields() -> Case {
+    let image = files::image("vdata_fields.hdf")?;
+    let field = |[number_type, size, offset, order]: [u16; 4], [name_offset, name_length]: [u32; 2]| Field {
+        number_type,
+        size,
+        offset,
+        order,
+        name_offset,
+        name_length,
+    };
+    let other = Field::from(9);
+    let known = [
+        field([4, 12, 0, 12], [548, 4]),
+        field([5, 12, 12, 3], [554, 5]),
+        field([22, 2, 24, 1], [561, 5]),
+        field([6, 16, 26, 2], [568, 3]),
+        other,
+    ];
+    let mut table = [other; 5];
+    let a = library::read_fields(&image, 2, &mut table);
+    same("head of fields", [a.number, a.place, a.records, a.record_size, a.fields], [0, 0, 5, 42, 4])?;
+    same("names of a head", [a.name_offset, a.name_length, a.class_offset, a.class_length], [573, 8, 583, 5])?;
+    same("fields", table, known)?;
+    let mut table = [other; 3];
+    let a = library::read_fields(&image, 2, &mut table);
+    same("head of too many fields", [a.number, a.place, a.records, a.fields], [SMALL, 0, 0, 0])?;
+    same("table of too many fields", table, [other; 3])?;
     Ok(image)
 }
 

@@ -2,13 +2,13 @@
 
 use super::records::{holds, pack_again, rooms, two_rooms};
 use super::{Outcome, Trial};
-use crate::ffi::records::{self as library, GroupListed, GroupRead, ValueRead, VdataRead};
+use crate::ffi::records::{self as library, Field, GroupListed, GroupRead, ValueRead, VdataRead};
 use crate::lent::Table;
 use crate::packing::Record;
 use crate::random::Random;
 use crate::records::Found;
 use crate::tally::Call;
-use crate::vset::{self, Group, Vdata};
+use crate::vset::{self, Group, Vdata, FIELD};
 
 /// How many values of a Vdata are read, each of them where there are no more.
 pub const FEW_VALUES: usize = 8;
@@ -79,14 +79,17 @@ fn compare_list(trial: &mut Trial, reference: u16, room: usize) -> Outcome {
     holds(Call::ListGroup, &arguments, &list, reading.as_ref().map_or(&[], |(pairs, _)| pairs))
 }
 
-/// Reads the head of a Vdata, packs it again, and reads some or all of its values.
+/// Reads the head of a Vdata by both its calls, packs it again, and reads some or all of its values.
 pub fn compare_vdata(trial: &mut Trial, reference: u16, most_values: usize) -> Outcome {
     let whole = vset::read_vdata(trial.lent.image(), &trial.directory, reference, [usize::MAX; 2]);
     let head = whole.as_ref().ok().map(|(found, _)| &found.record);
-    let needed = head.map_or([4, 2], |head| [head.fields.len(), 2 * head.name_lengths.len()]);
+    let fields = head.map_or(1, |head| head.name_lengths.len());
     let asked = head.map_or(any_indices(trial.random), |head| values(trial.random, head, most_values));
-    for rooms in two_rooms(trial, needed) {
+    for rooms in two_rooms(trial, [FIELD * fields, 2 * fields]) {
         compare_head(trial, reference, rooms)?;
+    }
+    for room in rooms(trial, fields) {
+        compare_fields(trial, reference, room)?;
     }
     pack_again(trial, whole, Record::Vdata)?;
     for indices in asked {
@@ -110,6 +113,29 @@ fn compare_head(trial: &mut Trial, reference: u16, rooms: [usize; 2]) -> Outcome
 fn field_names(found: &Found<Vdata>) -> Vec<u32> {
     let lengths = found.record.name_lengths.iter();
     found.names.iter().zip(lengths).flat_map(|(place, length)| [*place as u32, (*length).into()]).collect()
+}
+
+fn compare_fields(trial: &mut Trial, reference: u16, room: usize) -> Outcome {
+    let arguments = [reference.into(), room];
+    let mut table = Table::new(room);
+    let library = library::read_fields(trial.lent.image(), reference, table.lend());
+    let reading = vset::read_fields(trial.lent.image(), &trial.directory, reference, room);
+    trial.judge(Call::ReadFields, &arguments, library, &reading, vdata_read)?;
+    holds(Call::ReadFields, &arguments, &table, &reading.map_or(Vec::new(), |(found, _)| fields_of(&found)))
+}
+
+/// The fields with the places and lengths of their names.
+fn fields_of(found: &Found<Vdata>) -> Vec<Field> {
+    let names = found.names.iter().zip(&found.record.name_lengths);
+    let field = |(field, (place, length)): (vset::Field, (&u64, &u16))| Field {
+        number_type: field.number_type,
+        size: field.size,
+        offset: field.offset,
+        order: field.order,
+        name_offset: *place as u32,
+        name_length: (*length).into(),
+    };
+    found.record.field_list().zip(names).map(field).collect()
 }
 
 fn vdata_read(found: &Found<Vdata>) -> VdataRead {

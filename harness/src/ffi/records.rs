@@ -28,7 +28,7 @@ answer! {
 }
 
 answer! {
-    /// The answer of `hdf4_read_vdata`.
+    /// The answer of `hdf4_read_vdata` and `hdf4_read_fields`.
     VdataRead {
         interlace, records, record_size, fields, name_offset, name_length, class_offset, class_length, extension_tag,
         extension_ref, version, more
@@ -48,6 +48,37 @@ answer! {
 answer! {
     /// The answer of a call that packs a record: how many bytes were written.
     Packed { length }
+}
+
+/// A field in the table of `hdf4_read_fields`: four numbers, and place and length of its name.
+#[repr(C)]
+#[derive(Clone, Copy, Debug, PartialEq, Eq)]
+pub struct Field {
+    pub number_type: u16,
+    pub size: u16,
+    pub offset: u16,
+    pub order: u16,
+    pub name_offset: u32,
+    pub name_length: u32,
+}
+
+// As in the header: no padding.
+const _: () = assert!(size_of::<Field>() == 16);
+
+/// What fills a table beforehand, another number in each place.
+impl From<u8> for Field {
+    fn from(byte: u8) -> Field {
+        let number = u16::from(byte) | 0xa500;
+        let long = u32::from(byte) | 0xc3e1_8700;
+        Field {
+            number_type: number,
+            size: number ^ 0x1111,
+            offset: number ^ 0x2222,
+            order: number ^ 0x3333,
+            name_offset: long,
+            name_length: long ^ 0x4444_4444,
+        }
+    }
 }
 
 extern "C" {
@@ -107,6 +138,7 @@ extern "C" {
         names: *mut u32,
         names_room: usize,
     ) -> VdataRead;
+    fn hdf4_read_fields(image: *const u8, n: usize, reference: u16, table: *mut Field, room: usize) -> VdataRead;
     fn hdf4_pack_vdata(
         interlace: u16,
         records: u32,
@@ -168,6 +200,11 @@ pub fn read_vdata(image: &[u8], reference: u16, fields: &mut [u16], names: &mut 
     unsafe {
         hdf4_read_vdata(image.as_ptr(), n, reference, fields.as_mut_ptr(), fields_room, names.as_mut_ptr(), names_room)
     }
+}
+
+/// Writes the fields of a Vdata to the front of a table.
+pub fn read_fields(image: &[u8], reference: u16, table: &mut [Field]) -> VdataRead {
+    unsafe { hdf4_read_fields(image.as_ptr(), image.len(), reference, table.as_mut_ptr(), table.len()) }
 }
 
 pub fn read_value(image: &[u8], reference: u16, [record, field, component]: [u64; 3]) -> ValueRead {

@@ -65,6 +65,18 @@ pub struct VdataAnswer {
     pub tail: TailAnswer,
 }
 
+/// A field of a Vdata in the table that a call writes to. The name stands in the image.
+#[repr(C)]
+#[derive(Clone, Copy, Default)]
+pub struct Field {
+    pub number_type: u16,
+    pub size: u16,
+    pub offset: u16,
+    pub order: u16,
+    pub name_offset: u32,
+    pub name_length: u32,
+}
+
 #[repr(C)]
 pub struct ValueAnswer {
     pub number: u64,
@@ -156,15 +168,7 @@ extern "C" {
         out: *mut u8,
         room: usize,
     ) -> PackAnswer;
-    fn hdf4_read_vdata(
-        image: *const u8,
-        n: usize,
-        reference: u16,
-        fields: *mut u16,
-        fields_room: usize,
-        names: *mut u32,
-        names_room: usize,
-    ) -> VdataAnswer;
+    fn hdf4_read_fields(image: *const u8, n: usize, reference: u16, table: *mut Field, room: usize) -> VdataAnswer;
     fn hdf4_pack_vdata(
         interlace: u16,
         records: u32,
@@ -252,9 +256,8 @@ pub fn pack_group(members: &[u16], tail: &Tail, out: &mut [u8]) -> PackAnswer {
     }
 }
 
-pub fn read_vdata(image: &[u8], reference: u16, fields: &mut [u16], names: &mut [u32]) -> VdataAnswer {
-    let (n, fields_room, names_room) = (image.len(), fields.len(), names.len());
-    unsafe { hdf4_read_vdata(image.as_ptr(), n, reference, fields.as_mut_ptr(), fields_room, names.as_mut_ptr(), names_room) }
+pub fn read_fields(image: &[u8], reference: u16, table: &mut [Field]) -> VdataAnswer {
+    unsafe { hdf4_read_fields(image.as_ptr(), image.len(), reference, table.as_mut_ptr(), table.len()) }
 }
 
 pub fn pack_vdata(head: &Head, out: &mut [u8]) -> PackAnswer {
@@ -290,4 +293,18 @@ pub fn read_value(image: &[u8], reference: u16, record: u64, field: u64, compone
 
 pub fn list_group(image: &[u8], reference: u16, list: &mut [u16]) -> GroupListAnswer {
     unsafe { hdf4_list_group(image.as_ptr(), image.len(), reference, list.as_mut_ptr(), list.len()) }
+}
+
+#[cfg(test)]
+mod tests {
+    use super::*;
+    use std::mem::{align_of, offset_of, size_of};
+
+    #[test]
+    fn a_field_has_16_bytes() {
+        assert_eq!([offset_of!(Field, number_type), offset_of!(Field, size)], [0, 2]);
+        assert_eq!([offset_of!(Field, offset), offset_of!(Field, order)], [4, 6]);
+        assert_eq!([offset_of!(Field, name_offset), offset_of!(Field, name_length)], [8, 12]);
+        assert_eq!([size_of::<Field>(), align_of::<Field>()], [16, 4]);
+    }
 }

@@ -19,7 +19,7 @@ loop-holds : tie.Need-loop-holds Inv-loop μ-loop
 loop-holds c = let z : c .before .args .fields - 0 ≡ headIn (c .before .args .part .now) .fields = omega arith in Judging.judges-start _ _ _ (ap (λ n. fieldsFrom (c .before .args .part .now) (headIn (c .before .args .part .now)) n 0) z)
 
 field-at-requires : tie.Need-field-at-requires Inv-loop μ-loop
-field-at-requires c κs = (c .before .before .before .pre .0, c .loop-test .taken)
+field-at-requires c κs = (c .before .before .before .pre .0, omega (arith, c .loop-test .taken))
 
 judge-requires : tie.Need-judge-requires Inv-loop μ-loop
 judge-requires c κs = (omega (arith, c .before .before .loop .inv .low), c .field-at .ensures .1)

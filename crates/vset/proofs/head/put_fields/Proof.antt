@@ -18,7 +18,7 @@ loop-holds : tie.Need-loop-holds Inv-loop μ-loop
 loop-holds c = Headings.filling-start _ _ _
 
 field-at-requires : tie.Need-field-at-requires Inv-loop μ-loop
-field-at-requires c κs = (c .before .before .before .before .pre .0, c .loop-test .taken)
+field-at-requires c κs = (c .before .before .before .before .pre .0, omega (arith, c .loop-test .taken))
 
 cast-list : tie.Need-cast-list Inv-loop μ-loop
 cast-list c = omega (arith, c .before .field-at .ensures .1 .code)

@@ -5,7 +5,7 @@ use mathlib.Core.Path.{_≡_, sym, ap, _∙_}
 use mathlib.Core.List.{List}
 use borrow.Author.Needs.{needs}
 use Rattle.wire.specs.Numbers.{be}
-use Rattle.vset.specs.Steps.{namesEnd}
+use Rattle.vset.specs.Heads.{namesEnd}
 use Rattle.vset.proofs.Headings
 use Rattle.vset.proofs.head.skip_names.Statement.{statement}
 use Rattle.vset.proofs.head.skip_names.Tie as tie

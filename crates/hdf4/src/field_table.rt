@@ -1,0 +1,97 @@
+// The fields of a Vdata, one struct a field, in a lent table.
+use super::vset_calls::VdataAnswer;
+use super::vset_calls::vdata_answer;
+use vset::head;
+use vset::head::Answered;
+ghost use mathlib.Core.Path.{_≡_};
+ghost use Prim.Native.Nat.{_<_};
+ghost use lib.ListN.{length};
+ghost use Rattle.vset.specs.Heads.{headWithin};
+ghost use Rattle.hdf4.specs.VsetAnswers.{vdataAnswer};
+ghost use Rattle.hdf4.specs.FieldTable.{Lies, Reads, fieldIn, fieldsOf, tableAfter};
+
+// Type, size, offset and order of a field, and where its name stands in the image and how long it is.
+#[repr(C)]
+pub struct Field {
+    pub code: u16,
+    pub size: u16,
+    pub offset: u16,
+    pub order: u16,
+    pub name: u32,
+    pub name_length: u32,
+}
+
+// The numbers to answer, where the head's record starts in the image and how many bytes it has, and how many fields go to the table.
+pub struct Reading {
+    pub answer: VdataAnswer,
+    pub start: usize,
+    pub size: usize,
+    pub fields: usize,
+}
+
+fn read_head(image: &[u8], reference: u16, room: usize) -> Reading
+    ensures { λ r. ⌜ Reads (now (image .entry)) reference room r ⌝ }
+{
+    let found = head::find(image, reference, room);
+    let answer = vdata_answer(found);
+    match found {
+        Answered::Values { start, size, head } => Reading {
+            answer,
+            start,
+            size,
+            fields: head.fields,
+        },
+        Answered::Refused(_) => Reading {
+            answer,
+            start: 0,
+            size: 0,
+            fields: 0,
+        },
+    }
+}
+
+fn count_of(r: Reading) -> usize
+    ensures { λ n. ⌜ n ≡ r .fields ⌝ }
+{
+    r.fields
+}
+
+fn answer_of(r: Reading) -> VdataAnswer
+    ensures { λ a. ⌜ a ≡ r .answer ⌝ }
+{
+    r.answer
+}
+
+fn field_at(image: &[u8], r: Reading, i: usize) -> Field
+    requires { ⌜ Lies (now image) r × (i < r .fields) ⌝ }
+    ensures { λ f. ⌜ f ≡ fieldIn (now (image .entry)) r i ⌝ }
+{
+    let start = r.start;
+    let end = start + r.size;
+    let f = head::field(&image[start..end], i as u16);
+    Field {
+        code: f.numbers.code as u16,
+        size: f.numbers.size as u16,
+        offset: f.numbers.offset as u16,
+        order: f.numbers.order as u16,
+        name: (start + f.name) as u32,
+        name_length: f.length as u32,
+    }
+}
+
+#[no_mangle]
+pub extern "C" fn hdf4_read_fields(image: &[u8], reference: u16, table: &mut [Field]) -> VdataAnswer
+    ensures { λ r. ⌜ (vdataAnswer r ≡ headWithin (now (image .entry)) reference (length (now (table .entry))))
+        × (now (table .exit) ≡ tableAfter (headWithin (now (image .entry)) reference (length (now (table .entry)))) (fieldsOf (now (image .entry)) reference) (now (table .entry))) ⌝ }
+{
+    let r = read_head(image, reference, table.len());
+    let n = count_of(r);
+    let answer = answer_of(r);
+    let mut i = 0;
+    while i < n {
+        let f = field_at(image, r, i);
+        table[i] = f;
+        i += 1;
+    }
+    answer
+}
