@@ -2,17 +2,21 @@
 use Prim.Native.Nat.{ℕ, _+_, _<_, _≤_}
 use native.Mathlib.Omega.{arith}
 use mathlib.Core.Path.{_≡_, sym, ap, _∙_}
+use mathlib.Core.Logic.{inl, inr}
 use mathlib.Core.List.{List, _++_, append-assoc}
 use lib.ListN.{length, take, drop, replicate, length-append}
 use lib.Seq.{length-take-le, take-add, drop-drop}
-use borrow.Author.Tests.{le-leb, lt-leb}
+use lib.Dec.{leb}
+use borrow.Author.Tests.{le-leb, lt-leb, leb-true, leb-false}
 use Rattle.wire.specs.Numbers.{be, bytes, put, part, Bytes}
 use Rattle.wire.proofs.Numbers.{length-bytes, length-put, put-put, put-split, put-append, bytes-be, bytes-take}
-use Rattle.directory.specs.Limits.{most-bytes}
+use Rattle.directory.specs.Limits.{most-bytes, TOO-LONG}
 use Rattle.directory.specs.declared.Refusal.{Refusal}
+use Rattle.directory.proofs.Tests.{test}
+use Rattle.directory.proofs.Search.{must-holds, must-fails, passed}
 use Rattle.journal.specs.Outcome.{Outcome, granted, refused, outcomeAnswer, editedNumbers}
 use Rattle.journal.specs.Trailer.{trailer, previousOf}
-use Rattle.journal.specs.Edit.{slotBytes, dataOffset, dataSlot, newBlock, slotEdit, blockEdit, fitted}
+use Rattle.journal.specs.Edit.{slotBytes, dataOffset, dataSlot, newBlock, slotEdit, blockEdit, NO-ROOM, fitFault, fitted}
 use Rattle.journal.specs.Change.{changeAt, changeBytes, pastFirst}
 use Rattle.journal.specs.Buffer.{imageIn, laidOver, Does}
 use Rattle.journal.specs.declared.Edited.{Edited}
@@ -43,6 +47,28 @@ image-inside l n o h = rw (imageIn, le-leb _ _ h)
 
 -- ---- A file that fits, or not
 
+module _ (capacity size : ℕ) where
+  pub fault-long : most-bytes < size → fitFault capacity size ≡ TOO-LONG
+  unfolding fitFault
+  fault-long h = must-fails _ TOO-LONG _ (lt-leb _ _ h)
+
+  module _ (short : size ≤ most-bytes) where
+    pub fault-room : capacity < size → fitFault capacity size ≡ NO-ROOM
+    unfolding fitFault
+    fault-room h = must-holds _ TOO-LONG _ (le-leb _ _ short) ∙ must-fails _ NO-ROOM _ (lt-leb _ _ h)
+
+    pub fault-none : size ≤ capacity → fitFault capacity size ≡ 0
+    unfolding fitFault
+    fault-none h = must-holds _ TOO-LONG _ (le-leb _ _ short) ∙ must-holds _ NO-ROOM _ (le-leb _ _ h)
+
+  -- a file of so many bytes fits
+  pub fits : fitFault capacity size ≡ 0 → (size ≤ most-bytes) × (size ≤ capacity)
+  unfolding fitFault
+  fits q =
+      let a = passed (leb size most-bytes) 0 _ q in
+      let b = passed (leb size capacity) 18 _ (a .1) in
+      (leb-true _ _ (a .0), leb-true _ _ (b .0))
+
 module _ (capacity : ℕ) (file : List ℕ) (size : ℕ) (is : length file ≡ size) where
   pub fitted-long : most-bytes < size → fitted capacity file ≡ refused 1 0
   unfolding fitted
@@ -56,6 +82,19 @@ module _ (capacity : ℕ) (file : List ℕ) (size : ℕ) (is : length file ≡ s
     pub fitted-there : size ≤ capacity → fitted capacity file ≡ granted file
     unfolding fitted
     fitted-there h = simp (fitted, is, le-leb _ _ short, le-leb _ _ h)
+
+  -- by the number of the rule
+  pub fitted-fault : (k : ℕ) → k ≡ fitFault capacity size → (k ≡ 0 → ⊥) → fitted capacity file ≡ refused k 0
+  fitted-fault k q z =
+      elim (test (leb size most-bytes)) [
+        | inr long ↦ let h = leb-false _ _ long in rw (q ∙ fault-long capacity size h) (fitted-long h)
+        | inl short ↦
+            let h = leb-true _ _ short in
+            elim (test (leb size capacity)) [
+              | inr none ↦ let k = leb-false _ _ none in rw (q ∙ fault-room capacity size h k) (fitted-none h k)
+              | inl there ↦ absurd (z (q ∙ fault-none capacity size h (leb-true _ _ there)))
+            ]
+      ]
 
 -- ---- Old bytes as numbers
 

@@ -6,7 +6,7 @@ use lib.ListN.{length, replicate}
 use lib.Dec.{leb, ltb, eqb}
 use Rattle.wire.specs.Numbers.{bytes, put, part}
 use Rattle.directory.specs.Limits.{most-bytes, most-blocks, most-slots, free-tag, lone-tag, extended-first, extended-last, TOO-LONG, DIR-BIG, BAD-TAG, ABSENT}
-use Rattle.directory.specs.Search.{Hit, hit, miss, first}
+use Rattle.directory.specs.Search.{Hit, hit, miss, first, must}
 use Rattle.directory.specs.Blocks.{blocksOf}
 use Rattle.directory.specs.Slots.{liveAt, slotsOf}
 use Rattle.directory.specs.Lookup.{find}
@@ -72,6 +72,10 @@ fitted capacity file =
       | false ↦ refused TOO-LONG 0
       | true ↦ elim (leb (length file) capacity) [ false ↦ refused NO-ROOM 0 | true ↦ granted file ]
     ]
+
+-- the number of that rule, 0 where a file of so many bytes fits
+unfoldable pub fitFault : ℕ → ℕ → ℕ
+fitFault capacity size = must (leb size most-bytes) TOO-LONG (must (leb size capacity) NO-ROOM 0)
 
 -- the tags that no edit takes: 0, 1, 107, and 16384 to 32767
 unfoldable pub badTag : ℕ → Bool

@@ -40,7 +40,7 @@ ghost use Rattle.directory.specs.Search.{first};
 ghost use Rattle.directory.specs.Slots.{liveAt, slotsOf};
 ghost use Rattle.directory.specs.Opening.{openOf};
 ghost use Rattle.journal.specs.Trailer.{previousOf};
-ghost use Rattle.journal.specs.Edit.{badTag, dataSlot, slotEdit, newBlock, block-size, blockEdit, fitted, addAt};
+ghost use Rattle.journal.specs.Edit.{badTag, dataSlot, slotEdit, newBlock, block-size, blockEdit, fitFault, fitted, addAt};
 ghost use Rattle.journal.specs.Undo.{opens, undoOf};
 ghost use Rattle.journal.specs.Buffer.{addIn, replaceInBuffer, removeIn, undoIn, Does, Undoes};
 ghost use Rattle.journal.specs.Change.{Targets};
@@ -71,6 +71,19 @@ fn bad_tag(tag: usize) -> bool
     tag <= EXTENDED_LAST
 }
 
+// The number of the rule that a new file of so many bytes breaks in a buffer, 0 where it breaks none.
+fn fit_fault(size: usize, capacity: usize) -> usize
+    ensures { λ r. ⌜ r ≡ fitFault capacity size ⌝ }
+{
+    if MOST_BYTES < size {
+        return TOO_LONG;
+    }
+    if capacity < size {
+        return NO_ROOM;
+    }
+    0
+}
+
 // Points the slot at p at data appended to the image, unless the new file is too long or has no room.
 fn put_slot(
     buffer: &mut [u8],
@@ -84,17 +97,9 @@ fn put_slot(
     ensures { λ r. ⌜ Does (now (buffer .entry)) (now (buffer .exit)) (fitted (length (now (buffer .entry))) (slotEdit (take n (now (buffer .entry))) p (dataSlot tag reference (now (content .entry)) n) (now (content .entry)))) r ⌝ }
 {
     let end = n + content.len();
-    if MOST_BYTES < end + 32 {
-        return Edited::Refused(Refusal {
-            number: TOO_LONG,
-            place: 0,
-        });
-    }
-    if buffer.len() < end + 32 {
-        return Edited::Refused(Refusal {
-            number: NO_ROOM,
-            place: 0,
-        });
+    let number = fit_fault(end + 32, buffer.len());
+    if number != 0 {
+        return Edited::Refused(Refusal { number, place: 0 });
     }
     let change = change::change_at(&buffer[..n], p, 12);
     wire::write_bytes(buffer, n, content);
@@ -124,17 +129,9 @@ fn put_block(
 {
     let start = n + BLOCK_SIZE;
     let end = start + content.len();
-    if MOST_BYTES < end + 32 {
-        return Edited::Refused(Refusal {
-            number: TOO_LONG,
-            place: 0,
-        });
-    }
-    if buffer.len() < end + 32 {
-        return Edited::Refused(Refusal {
-            number: NO_ROOM,
-            place: 0,
-        });
+    let number = fit_fault(end + 32, buffer.len());
+    if number != 0 {
+        return Edited::Refused(Refusal { number, place: 0 });
     }
     let change = change::change_at(&buffer[..n], b + 2, 4);
     write::write_block(

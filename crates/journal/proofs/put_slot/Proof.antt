@@ -15,25 +15,18 @@ use Rattle.journal.proofs.put_slot.Tie as tie
 add-end : tie.Need-add-end
 add-end c = search needs
 
-add-if1 : tie.Need-add-if1
-add-if1 c = search needs
+add-fit-fault : tie.Need-add-fit-fault
+add-fit-fault c = search needs
+
+fit-fault-requires : tie.Need-fit-fault-requires
+fit-fault-requires c κs = search needs
 
 returns : tie.Need-returns
 returns c =
-    let a = c .before .before .before .args in
-    let q = c .before .before .before .pre in
-    let file = Laid.slot-length (a .buffer .now) (a .n) (a .p) (λ i. c .before .before .slice-known .given i .fits) (q .1) (q .2) (a .tag) (a .reference) (a .content .now) in
-    Laid.refuses _ _ _ (Laid.fitted-long _ _ _ file (c .if1 .taken))
-
-add-if2 : tie.Need-add-if2
-add-if2 c = search needs
-
-returns-2 : tie.Need-returns-2
-returns-2 c =
     let a = c .before .before .before .before .args in
     let q = c .before .before .before .before .pre in
     let file = Laid.slot-length (a .buffer .now) (a .n) (a .p) (λ i. c .before .before .before .slice-known .given i .fits) (q .1) (q .2) (a .tag) (a .reference) (a .content .now) in
-    Laid.refuses _ _ _ (Laid.fitted-none _ _ _ file (c .before .if1 .left) (c .if2 .taken))
+    Laid.refuses _ _ _ (Laid.fitted-fault _ _ _ file _ (c .before .fit-fault .ensures) (c .if1 .taken))
 
 slice-reshare-prefix-change-at : tie.Need-slice-reshare-prefix-change-at
 slice-reshare-prefix-change-at c = search needs
@@ -48,7 +41,7 @@ write-bytes-requires : tie.Need-write-bytes-requires
 write-bytes-requires c κs = search needs
 
 write-trailer-requires : tie.Need-write-trailer-requires
-write-trailer-requires c κs = search needs
+write-trailer-requires c κs = omega (arith, Laid.fits _ _ (sym (c .before .before .before .before .before .before .before .before .fit-fault .ensures) ∙ c .before .before .before .before .before .before .before .if1 .left))
 
 offset-of-requires : tie.Need-offset-of-requires
 offset-of-requires c κs = search needs
@@ -56,31 +49,30 @@ offset-of-requires c κs = search needs
 write-slot-requires : tie.Need-write-slot-requires
 write-slot-requires c κs = search needs
 
-add-t9 : tie.Need-add-t9
-add-t9 c = search needs
+add-t10 : tie.Need-add-t10
+add-t10 c = omega (arith, Laid.fits _ _ (sym (c .before .before .before .before .before .before .before .before .before .before .before .before .before .before .before .before .fit-fault .ensures) ∙ c .before .before .before .before .before .before .before .before .before .before .before .before .before .before .before .if1 .left))
 
 same-length : tie.Need-same-length
 same-length c = search needs
 
-returns-3 : tie.Need-returns-3
-returns-3 c =
+returns-2 : tie.Need-returns-2
+returns-2 c =
     let a = c .before .before .before .before .before .before .before .before .before .before .before .before .before .before .before .before .before .before .before .args in
     let q = c .before .before .before .before .before .before .before .before .before .before .before .before .before .before .before .before .before .before .before .pre in
     let file = Laid.slot-length (a .buffer .now) (a .n) (a .p) (λ i. c .before .before .before .before .before .before .before .before .before .before .before .before .before .before .before .before .before .before .slice-known .given i .fits) (q .1) (q .2) (a .tag) (a .reference) (a .content .now) in
-    let laid = Laid.slot-laid (a .buffer .now) (a .n) (a .p) (λ i. c .before .before .before .before .before .before .before .before .before .before .before .before .before .before .before .before .before .before .slice-known .given i .fits) (q .1) (q .2) (a .tag) (a .reference) (a .content .now) (c .before .before .before .before .before .before .before .before .before .before .before .before .before .before .before .if2 .left)
+    let laid = Laid.slot-laid (a .buffer .now) (a .n) (a .p) (λ i. c .before .before .before .before .before .before .before .before .before .before .before .before .before .before .before .before .before .before .slice-known .given i .fits) (q .1) (q .2) (a .tag) (a .reference) (a .content .now) (Laid.fits _ _ (sym (c .before .before .before .before .before .before .before .before .before .before .before .before .before .before .before .before .fit-fault .ensures) ∙ c .before .before .before .before .before .before .before .before .before .before .before .before .before .before .before .if1 .left) .1)
     (c .before .before .before .before .before .before .before .before .before .before .before .write-bytes .ensures) (c .before .before .before .before .before .before .before .write-trailer .ensures ∙ ap (λ x. put (c .before .before .before .before .before .before .before .before .before .before .before .write-bytes .last .0) (a .n + length (a .content .now)) (changeBytes x)) (c .before .before .before .before .before .before .before .before .before .before .before .before .before .change-at .ensures))
     (c .before .before .write-slot .ensures ∙ ap (λ x. put (c .before .before .before .before .before .before .before .write-trailer .last .0) (a .p) (slotBytes (a .tag) (a .reference) x (length (a .content .now)))) (c .before .before .before .offset-of .ensures)) in
-    Laid.grants _ _ _ _ _ (Laid.fitted-there _ _ _ file (c .before .before .before .before .before .before .before .before .before .before .before .before .before .before .before .before .if1 .left) (c .before .before .before .before .before .before .before .before .before .before .before .before .before .before .before .if2 .left)) (sym file) laid
+    Laid.grants _ _ _ _ _ (Laid.fitted-there _ _ _ file (Laid.fits _ _ (sym (c .before .before .before .before .before .before .before .before .before .before .before .before .before .before .before .before .fit-fault .ensures) ∙ c .before .before .before .before .before .before .before .before .before .before .before .before .before .before .before .if1 .left) .0) (Laid.fits _ _ (sym (c .before .before .before .before .before .before .before .before .before .before .before .before .before .before .before .before .fit-fault .ensures) ∙ c .before .before .before .before .before .before .before .before .before .before .before .before .before .before .before .if1 .left) .1)) (sym file) laid
 
 pub put-slot-spec : {M : Type 1} → statement M
 put-slot-spec =
     tie.close
     (tie.spec
     add-end
-    add-if1
+    add-fit-fault
+    fit-fault-requires
     returns
-    add-if2
-    returns-2
     slice-reshare-prefix-change-at
     slice-aggregate-change-at
     change-at-requires
@@ -88,6 +80,6 @@ put-slot-spec =
     write-trailer-requires
     offset-of-requires
     write-slot-requires
-    add-t9
+    add-t10
     same-length
-    returns-3)
+    returns-2)
