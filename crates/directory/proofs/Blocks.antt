@@ -8,16 +8,16 @@ use mathlib.Core.Logic.{_⊎_, inl, inr}
 use mathlib.Core.List.{List, [], _∷_, _++_, append-assoc, append-nil}
 use mathlib.Core.Bool.{true, false, not, and-false}
 use lib.Dec.{leb, eqb}
-use lib.ListN.{length, getD, take, set, length-append, length-set}
+use lib.ListN.{length, getD, take, drop, set, length-append, length-set}
 use lib.Seq.{take-suc-set, getD-set-same, getD-set-other}
 use borrow.Author.Tests.{lt-ltb, le-ltb, le-leb, lt-leb, eq-eqb, ne-eqb}
 use Rattle.directory.specs.Limits.{most-bytes}
 use Rattle.directory.specs.Search.{must, any}
 use Rattle.directory.specs.Blocks.{slotCount, nextBlock, blockEnd, meets, meetsBlock, onDirectory, blockFault, walked, broken, chainFrom, chain}
 use Rattle.directory.specs.Slots.{rows, slotPlaces}
-use Rattle.directory.specs.Places.{Blocks, WalkedTo}
+use Rattle.directory.specs.Places.{Blocks, StartBelow, WalkedTo}
 use Rattle.directory.specs.declared.chain.Walked.the-variants.{Whole}
-use Rattle.directory.proofs.Search.{must-holds, must-fails}
+use Rattle.directory.proofs.Search.{must-holds, must-fails, scan-skip, scan-none}
 
 -- ---- The rules of a block, in order
 
@@ -97,6 +97,13 @@ pub before-block : (s : List ℕ) (a e b : ℕ) → e ≤ b → meetsBlock s a e
 unfolding meetsBlock meets
 before-block s a e b h = simp (meetsBlock, meets, le-ltb b e h, and-false)
 
+-- ---- Blocks that all lie below a place
+
+pub fresh-above : (places : List ℕ) (blocks top at : ℕ) → blocks ≤ length places → StartBelow places blocks top → top ≤ at → any (eqb at) (take blocks places) ≡ false
+fresh-above places blocks top at le below h =
+    scan-skip places blocks le (eqb at) blocks (omega arith) (λ j k. let b = below j k in ne-eqb at (getD places j 0) (λ e. omega arith))
+    ∙ scan-none places blocks blocks (omega arith) le (eqb at)
+
 -- ---- The slots of the blocks
 
 pub length-rows : (p k : ℕ) → length (rows p k) ≡ k
@@ -142,15 +149,25 @@ set-below P l n v h f p i k = go (eq-or-lt-of-le le)
     go (inl e) = rw (e, getD-set-same l n v 0 h) p
     go (inr m) = rw (getD-set-other l n i v 0 (λ e. omega arith)) (f i m)
 
--- the walk before the block at a place: what is left of the chain is the chain, and the blocks passed lie inside
-pub record Before (s places : List ℕ) (at blocks slots : ℕ) : Type 0 where
+-- the walk before the block at a place: what is left of the chain is the chain, and the blocks passed lie inside and end at or before top
+pub record Before (s places : List ℕ) (at blocks slots top : ℕ) : Type 0 where
   pub left : chainFrom s (256 - blocks) (take blocks places) slots at ≡ chain s
   pub total : length (slotPlaces s (take blocks places)) ≡ slots
   pub few : slots ≤ 4096
   pub low : at < 4294967296
   pub passed : Blocks s places blocks
+  pub ended : (i : ℕ) → i < blocks → blockEnd s (getD places i 0) ≤ top
 
-module _ (s places : List ℕ) (at blocks slots : ℕ) (w : Before s places at blocks slots) where
+module _ (s places : List ℕ) (at blocks slots top : ℕ) (w : Before s places at blocks slots top) where
+  pub start-below : StartBelow places blocks top
+  start-below i h = omega (arith, w .ended i h)
+
+  -- the search for a block that meets the one at hand may start where `first_to_compare` says
+  pub compared-from : (end k : ℕ) → k ≤ blocks → (0 < k → top ≤ at) → any (meetsBlock s at end) (take blocks places) ≡ any (meetsBlock s at end) (drop k (take blocks places))
+  compared-from end k le h =
+      scan-skip places blocks (omega (arith, w .passed .long, w .passed .few)) (meetsBlock s at end) k le
+      (λ j q. let ended = w .ended j (omega arith) in let above = h (omega arith) in past-block s at end (getD places j 0) (omega arith))
+
   pub stopped : (f : ℕ) → blockFault s (take blocks places) slots at ≡ suc f → chain s ≡ broken (suc f) at
   stopped f h = sym (w .left) ∙ chain-breaks s (take blocks places) slots at (256 - blocks) f h
 
@@ -177,17 +194,19 @@ module _ (s places : List ℕ) (at blocks slots : ℕ) (w : Before s places at b
     last e =
         (sym (w .left) ∙ rw fuel (chain-ends s (take blocks places) slots at (256 - (blocks + 1)) ok e) ∙ ap walked (sym kept), kept-total, kept-passed)
 
-    pub next : (nextBlock s at ≡ 0 → ⊥) → nextBlock s at < 4294967296 → Before s (set places blocks at) (nextBlock s at) (blocks + 1) (slots + slotCount s at)
-    next e l =
+    pub next : (nextBlock s at ≡ 0 → ⊥) → nextBlock s at < 4294967296 → (up : ℕ) → top ≤ up → blockEnd s at ≤ up
+        → Before s (set places blocks at) (nextBlock s at) (blocks + 1) (slots + slotCount s at) up
+    next e l up old new =
         record {
           left = rw kept (sym (chain-goes s (take blocks places) slots at (256 - (blocks + 1)) ok e) ∙ ap (λ k. chainFrom s k (take blocks places) slots at) (sym fuel) ∙ w .left);
           total = kept-total;
           few = room;
           low = l;
           passed = kept-passed;
+          ended = set-below (λ b. blockEnd s b ≤ up) places blocks at (omega (arith, w .passed .long)) (λ i h. let k = w .ended i h in omega arith) new;
         }
 
-pub start : (s places : List ℕ) → length s ≤ most-bytes → length places ≡ 256 → Before s places 4 0 0
+pub start : (s places : List ℕ) → length s ≤ most-bytes → length places ≡ 256 → Before s places 4 0 0 0
 unfolding chain slotPlaces
 start s places short long =
     record {
@@ -196,4 +215,5 @@ start s places short long =
       few = omega arith;
       low = omega arith;
       passed = record { short = short; long = long; few = omega arith; inside = λ i k. absurd (not-suc-le-zero k) };
+      ended = λ i k. absurd (not-suc-le-zero k);
     }

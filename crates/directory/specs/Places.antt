@@ -17,6 +17,10 @@ pub record Blocks (s places : List ℕ) (blocks : ℕ) : Type 0 where
   pub few : blocks ≤ most-blocks
   pub inside : (i : ℕ) → i < blocks → blockEnd s (getD places i 0) ≤ length s
 
+-- the first blocks of the array all start below a place
+abbrev pub StartBelow : List ℕ → ℕ → ℕ → Type 0
+StartBelow places blocks top = (i : ℕ) → i < blocks → getD places i 0 < top
+
 -- what the walk left in the array: the blocks of the whole chain; nothing is said of it where the chain is broken
 abbrev pub WalkedTo : List ℕ → List ℕ → Walked → Type 0
 WalkedTo s places (Whole blocks slots) =

@@ -7,12 +7,12 @@ use super::refusals::DIR_CUT;
 use super::refusals::DIR_LOOP;
 use super::refusals::DIR_OVER;
 ghost use mathlib.Core.Path.{_≡_};
-ghost use Prim.Native.Nat.{_≤_};
+ghost use Prim.Native.Nat.{_≤_, _<_};
 ghost use lib.Dec.{eqb};
 ghost use lib.ListN.{length, take};
 ghost use Rattle.directory.specs.Limits.{most-bytes};
 ghost use Rattle.directory.specs.Search.{any};
-ghost use Rattle.directory.specs.Places.{WalkedTo};
+ghost use Rattle.directory.specs.Places.{StartBelow, WalkedTo};
 
 // A chain that is whole, with how many blocks and slots it has, or its first fault.
 pub enum Walked {
@@ -35,6 +35,38 @@ fn seen(places: &[usize; 256], blocks: usize, at: usize) -> bool
     false
 }
 
+// Whether one of the first blocks stands at a place. All of them start below top, so nothing is searched from there on.
+fn seen_below(places: &[usize; 256], blocks: usize, top: usize, at: usize) -> bool
+    requires { ⌜ (length (now places) ≡ 256) × (blocks ≤ 256) × StartBelow (now places) blocks top ⌝ }
+    ensures { λ r. ⌜ r ≡ any (eqb at) (take blocks (now (places .entry))) ⌝ }
+{
+    if at < top {
+        if seen(places, blocks, at) {
+            return true;
+        }
+    }
+    false
+}
+
+// The first block to compare with one at a place: none of them, where all end at or before it.
+fn first_to_compare(at: usize, top: usize, blocks: usize) -> usize
+    ensures { λ r. ⌜ (r ≤ blocks) × (0 < r → top ≤ at) ⌝ }
+{
+    if top <= at {
+        return blocks;
+    }
+    0
+}
+
+fn greater(a: usize, b: usize) -> usize
+    ensures { λ r. ⌜ (a ≤ r) × (b ≤ r) ⌝ }
+{
+    if a < b {
+        return b;
+    }
+    a
+}
+
 // Walks the chain and puts the place of each block into the array.
 pub(crate) fn walk(image: &[u8], places: &mut [usize; 256]) -> Walked
     requires { ⌜ (length (now image) ≤ most-bytes) × (length (now places) ≡ 256) ⌝ }
@@ -43,8 +75,9 @@ pub(crate) fn walk(image: &[u8], places: &mut [usize; 256]) -> Walked
     let mut at = 4;
     let mut blocks = 0;
     let mut slots = 0;
+    let mut top = 0;
     'chain: loop {
-        if seen(places, blocks, at) {
+        if seen_below(places, blocks, top, at) {
             break 'chain Walked::Broken(Refusal {
                 number: DIR_LOOP,
                 place: at,
@@ -82,7 +115,7 @@ pub(crate) fn walk(image: &[u8], places: &mut [usize; 256]) -> Walked
                 place: at,
             });
         }
-        let mut i = 0;
+        let mut i = first_to_compare(at, top, blocks);
         while i < blocks {
             let b = places[i];
             if b < end {
@@ -98,6 +131,7 @@ pub(crate) fn walk(image: &[u8], places: &mut [usize; 256]) -> Walked
         places[blocks] = at;
         blocks += 1;
         slots += count;
+        top = greater(top, end);
         let next = wire::read32(image, at + 2);
         if next == 0 {
             break 'chain Walked::Whole { blocks, slots };
