@@ -21,6 +21,7 @@ use refusals::NOT_HDF;
 use refusals::TOO_LONG;
 use refusals::TWICE;
 ghost use mathlib.Core.Path.{_≡_};
+ghost use mathlib.Core.Bool.{true};
 ghost use mathlib.Core.List.{[]};
 ghost use Prim.Native.Nat.{_≤_};
 ghost use lib.ListN.{length, take};
@@ -30,7 +31,7 @@ ghost use Rattle.directory.specs.Opening.{headed, slotsFrom, openOf};
 ghost use Rattle.directory.specs.Lookup.{has, hitFound, findOf};
 ghost use Rattle.directory.specs.Search.{first};
 ghost use Rattle.directory.specs.Cursor.{slotsAfter};
-ghost use Rattle.directory.specs.Places.{Blocks, Follows};
+ghost use Rattle.directory.specs.Places.{Blocks, Follows, Rising};
 
 // A refusal's number and place.
 pub struct Refusal {
@@ -66,8 +67,14 @@ fn is_hdf(image: &[u8]) -> bool
 }
 
 // The rules of all slots, in chain order, and how many are live. Earlier slots and blocks that cannot matter are not searched.
-fn check_slots(image: &[u8], places: &[usize; 256], blocks: usize, slots: usize) -> Opened
-    requires { ⌜ Blocks (now image) (now places) blocks × Follows (now image) (take blocks (now places)) blocks slots ⌝ }
+fn check_slots(
+    image: &[u8],
+    places: &[usize; 256],
+    blocks: usize,
+    slots: usize,
+    rising: bool,
+) -> Opened
+    requires { ⌜ Blocks (now image) (now places) blocks × Follows (now image) (take blocks (now places)) blocks slots × (rising ≡ true → Rising (now image) (now places) blocks) ⌝ }
     ensures { λ r. ⌜ openedNumbers r ≡ slotsFrom (now (image .entry)) (take blocks (now (places .entry))) [] (slotPlaces (now (image .entry)) (take blocks (now (places .entry)))) 0 ⌝ }
 {
     let all = Highest::start(image, blocks);
@@ -86,7 +93,7 @@ fn check_slots(image: &[u8], places: &[usize; 256], blocks: usize, slots: usize)
         }
         let p = at.place;
         if wire::read16(image, p) != FREE {
-            let judged = slot::element_fault(image, places, blocks, gap, p);
+            let judged = slot::element_fault(image, places, blocks, rising, gap, at);
             let number = judged.rule;
             if number != 0 {
                 break 'slots Opened::Refused(Refusal { number, place: p });
@@ -133,7 +140,11 @@ pub fn open(image: &[u8]) -> Opened
     let walked = chain::walk(image, &mut places);
     match walked {
         Walked::Broken(fault) => Opened::Refused(fault),
-        Walked::Whole { blocks, slots } => check_slots(image, &places, blocks, slots),
+        Walked::Whole {
+            blocks,
+            slots,
+            rising,
+        } => check_slots(image, &places, blocks, slots, rising),
     }
 }
 

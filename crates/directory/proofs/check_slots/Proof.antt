@@ -31,16 +31,16 @@ pub record Passing (image places : List ℕ) (blocks : ℕ) (highest : Highest) 
   pub between : Between image places blocks gap
 
 abbrev Inv-loop : tie.InvT-loop
-Inv-loop image places blocks slots all highest at gap passed live p number earlier₀ i₀ earlier i = References.Searching image (slotPlaces image (take blocks places)) p passed earlier i
+Inv-loop image places blocks slots rising all highest at gap passed live p number earlier₀ i₀ earlier i = References.Searching image (slotPlaces image (take blocks places)) p passed earlier i
 
 abbrev μ-loop : tie.MeasureT-loop
-μ-loop image places blocks slots all highest at gap passed live p number earlier₀ i₀ earlier i = passed - i
+μ-loop image places blocks slots rising all highest at gap passed live p number earlier₀ i₀ earlier i = passed - i
 
 abbrev Inv-slots : tie.InvT-slots
-Inv-slots image places blocks slots all highest₀ at₀ gap₀ passed₀ live₀ highest at gap passed live = Passing image places blocks highest at gap passed live
+Inv-slots image places blocks slots rising all highest₀ at₀ gap₀ passed₀ live₀ highest at gap passed live = Passing image places blocks highest at gap passed live
 
 abbrev μ-slots : tie.MeasureT-slots
-μ-slots image places blocks slots all highest₀ at₀ gap₀ passed₀ live₀ highest at gap passed live = slots - passed
+μ-slots image places blocks slots rising all highest₀ at₀ gap₀ passed₀ live₀ highest at gap passed live = slots - passed
 
 -- the slots of all blocks
 abbrev every : tie.Start Inv-loop μ-loop Inv-slots μ-slots → List ℕ
@@ -115,7 +115,7 @@ read16-requires c κs = search needs
 element-fault-requires : tie.Need-element-fault-requires Inv-loop μ-loop Inv-slots μ-slots
 element-fault-requires c κs =
     let e = c .before .before in
-    (start e .pre .0, e .before .slots .inv .between, at-here e .low)
+    (start e .pre .0, e .before .slots .inv .between, at-here e .low, start e .pre .2)
 
 with-requires : tie.Need-with-requires Inv-loop μ-loop Inv-slots μ-slots
 with-requires c κs = at-here (c .before .before .before .before .before) .low
