@@ -10,7 +10,7 @@ use borrow.Author.Tests.{ltb-true, ltb-false, le-ltb}
 use mir.Syntax.{w64}
 use mir.Val.{Fits, SFits, toZ, ofZ}
 use mir.Facts.{toZ-ofZ}
-use Rattle.vset.specs.Types.{complement}
+use Rattle.vdata.specs.Patterns.{complement}
 
 -- what lies below zero, counted from -1
 below : (n : ℕ) → negsuc 0 -ℤ negsuc n ≡ pos n

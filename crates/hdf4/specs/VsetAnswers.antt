@@ -10,8 +10,8 @@ use Rattle.vset.specs.declared.tail.Ending.{Ending}
 use Rattle.vset.specs.declared.head.Start.{Start}
 use Rattle.vset.specs.declared.head.Answered.{Answered}
 use Rattle.vset.specs.declared.head.Answered.the-variants.{Values, Refused}
-use Rattle.vset.specs.declared.value.Value.{Value}
-use Rattle.vset.specs.declared.value.Value.the-variants.{Signed, Unsigned, Float32, Float64, Nan32, Nan64}
+use Rattle.vdata.specs.declared.value.Value.{Value}
+use Rattle.vdata.specs.declared.value.Value.the-variants.{Signed, Unsigned, Float32, Float64, Nan32, Nan64}
 use Rattle.hdf4.specs.declared.vset_calls.GroupAnswer.{GroupAnswer}
 use Rattle.hdf4.specs.declared.vset_calls.VdataAnswer.{VdataAnswer}
 use Rattle.hdf4.specs.declared.vset_calls.ValueAnswer.{ValueAnswer}

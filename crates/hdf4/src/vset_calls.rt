@@ -1,14 +1,14 @@
 // The C interface of Vgroups and Vdatas.
 use super::record_calls::PackAnswer;
 use super::record_calls::pack_answer;
+use vdata::value;
+use vdata::value::Value;
+use vgroup::listing;
+use vgroup::listing::Listed;
 use vset::group;
 use vset::head;
 use vset::head::Start;
-use vset::listing;
-use vset::listing::Listed;
 use vset::tail::Ending;
-use vset::value;
-use vset::value::Value;
 ghost use mathlib.Core.Path.{_≡_};
 ghost use mathlib.Core.List.{[], _∷_};
 ghost use lib.ListN.{length};
@@ -18,9 +18,9 @@ ghost use Rattle.vset.specs.Limits.{group-tag, head-tag};
 ghost use Rattle.vset.specs.Groups.{groupOf, groupMembers, groupBytes, groupPackFault};
 ghost use Rattle.vset.specs.Heads.{headOf, headFields, headNames, startOf, headNumbers, headBytes, headPackFault};
 ghost use Rattle.directory.specs.Answer.{grant};
-ghost use Rattle.vset.specs.Types.{complement, valueKind, valueBits};
-ghost use Rattle.vset.specs.Values.{valueOf};
-ghost use Rattle.vset.specs.Listings.{listingOf, pairsOf};
+ghost use Rattle.vdata.specs.Patterns.{complement, valueKind, valueBits};
+ghost use Rattle.vdata.specs.Values.{valueOf};
+ghost use Rattle.vgroup.specs.Listings.{listingOf, pairsOf};
 ghost use Rattle.hdf4.specs.RecordAnswers.{Packs};
 ghost use Rattle.hdf4.specs.VsetAnswers.{groupAnswer, vdataAnswer, valueAnswer, HasBits, pairsAnswer, NamesFit, endingFrom, startFrom};
 

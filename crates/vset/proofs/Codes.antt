@@ -1,13 +1,11 @@
 -- Number types by their codes, a row of the table at a time. Assumes nothing.
 use Prim.Native.Nat.{ℕ}
-use mathlib.Core.Path.{_≡_, refl, ap, _∙_}
+use mathlib.Core.Path.{_≡_, refl}
 use mathlib.Core.Logic.{inl, inr}
 use mathlib.Core.List.{List, [], _∷_}
 use borrow.Author.Tests.{eq-eqb, ne-eqb}
-use Rattle.wire.specs.Numbers.{be}
 use Rattle.directory.proofs.Tests.{same?}
-use Rattle.vset.specs.Types.{Kind, signed, unsigned, float, Row, types, rowOf, widthOf, kindOf, valueBy, valueAt}
-use Rattle.vset.specs.declared.value.Value.the-variants.{Unsigned}
+use Rattle.vset.specs.Types.{unsigned, Row, types, rowOf, widthOf, kindOf}
 
 -- ---- A table
 
@@ -60,7 +58,7 @@ width-unknown code a b c d e f g h i j =
     )
 
 module _ (code : ℕ) (a : code ≡ 20 → ⊥) (b : code ≡ 22 → ⊥) (c : code ≡ 24 → ⊥) (d : code ≡ 5 → ⊥) (e : code ≡ 6 → ⊥) where
-  kind-unsigned : kindOf code ≡ unsigned
+  pub kind-unsigned : kindOf code ≡ unsigned
   unfolding kindOf
   kind-unsigned =
       row-is (λ r. r .kind ≡ unsigned) code types (
@@ -106,8 +104,3 @@ module _ (code : ℕ) (a : code ≡ 20 → ⊥) (b : code ≡ 22 → ⊥) (c : c
           ),
         ),
       )
-
-  -- and its values are unsigned
-  pub value-unsigned : (width : ℕ) → widthOf code ≡ width → (v : List ℕ) (at : ℕ) → valueAt code v at ≡ Unsigned (be width v at)
-  unfolding valueAt valueBy
-  value-unsigned width w v at = rw (kind-unsigned, w)

@@ -1,16 +1,16 @@
 -- What a reader may rely on of Vgroups: packing gives back the bytes that were read, reading gives back what was packed, and what is listed. Assumes nothing.
-use Prim.Native.Nat.{ℕ, zero, suc, _+_, _*_, _-_, _/_, _<_, _≤_}
+use Prim.Native.Nat.{ℕ, _+_, _*_, _-_, _/_, _<_, _≤_}
 use native.Mathlib.Omega.{arith}
 use mathlib.Core.Path.{_≡_, refl, sym, ap, _∙_}
 use mathlib.Core.List.{List, [], _∷_, _++_}
 use lib.ListN.{length, getD, take, drop, length-append}
 use lib.Seq.{take-at, drop-at}
 use lib.Dec.{leb}
-use borrow.Author.Tests.{le-leb, ne-eqb}
+use borrow.Author.Tests.{le-leb}
 use Rattle.wire.specs.Numbers.{be, part, Bytes}
 use Rattle.wire.proofs.Numbers.{bytes-part}
 use Rattle.directory.specs.Answer.{grant}
-use Rattle.directory.specs.Search.{Hit, hit, miss}
+use Rattle.directory.specs.Search.{hit}
 use Rattle.directory.specs.Slots.{contentAt}
 use Rattle.directory.specs.Opening.{openOf}
 use Rattle.directory.specs.Lookup.{find}
@@ -20,18 +20,16 @@ use Rattle.records.specs.Layout.{read, extent, numbers, pack, given, numbersAt,
 use Rattle.records.specs.Reading.{recordBytes, inRoom}
 use Rattle.records.proofs.Layouts.{length-numbersAt, pack-numbers, PackedAt, packed-at}
 use Rattle.records.proofs.Readings.{found-plain, record-granted, record-passes, inRoom-enough}
-use Rattle.vset.specs.Limits.{group-tag, most-nested}
+use Rattle.vset.specs.Limits.{group-tag}
 use Rattle.vset.specs.Columns.{rows2, every}
 use Rattle.vset.specs.Tails.{tail, tailNumbers}
 use Rattle.vset.specs.Groups.{group, groupFault, groupMembers, groupValues, groupOf, groupBytes, groupPackFault}
-use Rattle.vset.specs.Listings.{Listing, stopped, pair, membersFrom, listFrom, placesIn, pairsFound, pairsOf}
 use Rattle.vset.specs.declared.tail.Tail.{Tail}
 use Rattle.vset.specs.declared.tail.Ending.{Ending}
 use Rattle.vset.specs.declared.group.Group.{Group}
 use Rattle.vset.proofs.Rows.{length-every, every-small, rows2-first, rows2-second, rows2-every}
 use Rattle.vset.proofs.Tailings.{Narrow, tailIn, endingOf, tailGiven, numbers-tail, given-tail, tail-fits, tail-parts}
 use Rattle.vset.proofs.Groupings.{groupIn, group-ends, group-passed, group-sound, tail-after, members-are, length-members, PackSound, pack-passed}
-use Rattle.vset.proofs.Walking.{listed-few}
 
 -- ---- Packing what was read
 
@@ -235,43 +233,3 @@ group-reads members name class x q s ref p sound found plain rest is room fits =
       name-is = rw (f .viewed) (b .0);
       class-is = rw (f .viewed) (b .1);
     }
-
--- ---- Listing
-
--- no more pairs are listed than the lent table has places for
-pub pairs-few : (s : List ℕ) (ref room : ℕ) → length (pairsOf s ref room) ≤ 2 * placesIn room
-unfolding pairsFound
-pairs-few s ref room = go (find s group-tag ref)
-  where
-    go : (h : Hit) → length (pairsFound s h room) ≤ 2 * placesIn room
-    go miss = omega arith
-    go (hit p) = listed-few most-nested s p (placesIn room)
-
--- members none of which is a group are listed as they stand
-members-other : (nest : ℕ → ℕ → Listing) (tag ref : ℕ) (rest : List ℕ) (room : ℕ) → (tag ≡ group-tag → ⊥)
-    → membersFrom nest (tag ∷ ref ∷ rest) (suc room) ≡ pair tag ref (membersFrom nest rest room)
-unfolding membersFrom
-members-other nest tag ref rest room h = rw (ne-eqb _ _ h)
-
-members-none : (nest : ℕ → ℕ → Listing) (room : ℕ) → membersFrom nest [] room ≡ stopped 0 0
-unfolding membersFrom
-members-none nest room = refl
-
-members-plain : (nest : ℕ → ℕ → Listing) (n : ℕ) (xs : List ℕ) → length xs ≡ 2 * n → ((i : ℕ) → i < n → getD xs (2 * i) 0 ≡ group-tag → ⊥)
-    → (room : ℕ) → n ≤ room → membersFrom nest xs room ≡ record { pairs = xs; number = 0; place = 0 }
-members-plain nest zero [] l h room r = members-none nest room
-members-plain nest zero (x ∷ xs) l h room r = absurd (omega arith)
-members-plain nest (suc n) [] l h room r = absurd (omega arith)
-members-plain nest (suc n) (x ∷ []) l h room r = absurd (omega arith)
-members-plain nest (suc n) (x ∷ y ∷ xs) l h zero r = absurd (omega arith)
-members-plain nest (suc n) (x ∷ y ∷ xs) l h (suc room) r =
-    let later : (i : ℕ) → i < n → getD xs (2 * i) 0 ≡ group-tag → ⊥ =
-    λ i m q. h (suc i) (omega arith) (let a : 2 * suc i ≡ suc (suc (2 * i)) = omega arith in rw a q) in
-    members-other nest x y xs room (h 0 (omega arith)) ∙ ap (pair x y) (members-plain nest n xs (omega arith) later room (omega arith))
-
-pub list-plain : (depth : ℕ) (s : List ℕ) (p room : ℕ) → let ms = groupMembers (contentAt s p) in
-    ((i : ℕ) → i < groupIn (contentAt s p) .members → getD ms (2 * i) 0 ≡ group-tag → ⊥) → groupIn (contentAt s p) .members ≤ room
-    → listFrom depth s p room ≡ record { pairs = ms; number = 0; place = 0 }
-unfolding listFrom
-list-plain zero s p room h r = members-plain _ _ _ (length-members (contentAt s p)) h room r
-list-plain (suc depth) s p room h r = members-plain _ _ _ (length-members (contentAt s p)) h room r

@@ -4,6 +4,4 @@ pub mod Tails
 pub mod Groups
 pub mod Types
 pub mod Heads
-pub mod Values
-pub mod Listings
 pub mod Steps

@@ -1,30 +1,23 @@
 -- What the functions behind the calls take and leave. Assumes nothing.
-use Prim.Native.Nat.{ℕ, zero, suc, _+_, _*_, _<_, _≤_}
+use Prim.Native.Nat.{ℕ, _+_, _*_, _<_, _≤_}
 use mathlib.Core.Path.{_≡_}
 use mathlib.Core.List.{List, [], _∷_, _++_}
 use mathlib.Core.Bool.{Bool, _&&_}
 use lib.ListN.{length, take, drop}
 use lib.Dec.{leb, eqb}
-use Rattle.wire.specs.Numbers.{bytes, put, part}
-use Rattle.directory.specs.Limits.{most-bytes, ABSENT}
-use Rattle.directory.specs.Search.{must, Hit, hit, miss}
-use Rattle.directory.specs.Slots.{sizeAt, contentAt}
-use Rattle.storage.specs.Elements.{startAt, plainFault}
-use Rattle.storage.specs.declared.view.Located.{Located}
-use Rattle.storage.specs.declared.view.Located.the-variants as located
+use Rattle.wire.specs.Numbers.{bytes, part}
+use Rattle.directory.specs.Limits.{most-bytes}
+use Rattle.directory.specs.Search.{must}
 use Rattle.records.specs.Limits.{RECORD}
 use Rattle.records.specs.Reading.{recordBytes}
 use Rattle.vset.specs.Limits.{head-tag, most-fields, TYPE}
 use Rattle.vset.specs.Types.{widthOf}
-use Rattle.vset.specs.Groups.{groupFault}
-use Rattle.vset.specs.Listings.{Listing}
 use Rattle.vset.specs.Heads.{headIn, startOf}
 use Rattle.vset.specs.declared.field.Numbers.{Numbers}
 use Rattle.vset.specs.declared.head.Judged.{Judged}
 use Rattle.vset.specs.declared.head.Head.{Head}
 use Rattle.vset.specs.declared.head.Answered.{Answered}
 use Rattle.vset.specs.declared.head.Answered.the-variants.{Values, Refused}
-use Rattle.vset.specs.declared.listing.Walked.{Walked}
 
 -- the numbers of a field have 16 bits
 pub record Narrow (f : Numbers) : Type 0 where
@@ -55,13 +48,6 @@ unfoldable pub namesBytes : List ℕ → List ℕ → List ℕ
 namesBytes [] all = []
 namesBytes (n ∷ ns) all = bytes 2 n ++ (take n all ++ namesBytes ns (drop n all))
 
--- a walk over the members of a group, into a table from a place on
-pub record Walks (l : Listing) (at : ℕ) (table after : List ℕ) (r : Walked) : Type 0 where
-  pub pairs : 2 * r .pairs ≡ length (l .pairs)
-  pub number : r .number ≡ l .number
-  pub place : r .place ≡ l .place
-  pub leaves : after ≡ put table at (l .pairs)
-
 -- a head that was found: its record's place and bytes, which break no rule, and room for its fields
 pub record HeadHeld (s : List ℕ) (ref room start size : ℕ) (h : Head) : Type 0 where
   pub short : length s ≤ most-bytes
@@ -76,15 +62,3 @@ pub record HeadHeld (s : List ℕ) (ref room start size : ℕ) (h : Head) : Type
 abbrev pub Held : List ℕ → ℕ → ℕ → Answered → Type 0
 Held s ref room (Values start size h) = HeadHeld s ref room start size h
 Held s ref room (Refused r) = r .number ≡ 0 → ⊥
-
--- the group at what a lookup found, or its first fault
-unfoldable pub groupAt : List ℕ → Hit → Located
-groupAt s miss = located.Refused (record { number = ABSENT; place = 0 })
-groupAt s (hit q) =
-    elim (plainFault s q) [
-      | suc number ↦ located.Refused (record { number = suc number; place = q })
-      | zero ↦ elim (groupFault (contentAt s q)) [
-        | zero ↦ located.Plain q (startAt s q) (sizeAt s q)
-        | suc number ↦ located.Refused (record { number = suc number; place = q })
-      ]
-    ]

@@ -1,4 +1,4 @@
-// The four numbers of a Vdata field, and rows and columns of them.
+// The four numbers of a Vdata field, how many bytes a value of its type has, and columns of such numbers.
 ghost use mathlib.Core.Path.{_≡_};
 ghost use Prim.Native.Nat.{_+_, _*_, _≤_, _<_};
 ghost use lib.ListN.{length};
@@ -6,12 +6,50 @@ ghost use lib.Seq.{sets};
 ghost use Rattle.wire.specs.Numbers.{put};
 ghost use Rattle.records.specs.Layout.{bytesEach};
 ghost use Rattle.vset.specs.Columns.{every};
+ghost use Rattle.vset.specs.Types as Types;
 
 pub struct Numbers {
     pub code: usize,
     pub size: usize,
     pub offset: usize,
     pub order: usize,
+}
+
+// How many bytes a value of a type has, 0 where the type is unknown.
+pub fn width(code: usize) -> usize
+    ensures { λ r. ⌜ (r ≡ Types.widthOf code) × (r ≤ 8) ⌝ }
+{
+    if code == 3 {
+        return 1;
+    }
+    if code == 4 {
+        return 1;
+    }
+    if code == 20 {
+        return 1;
+    }
+    if code == 21 {
+        return 1;
+    }
+    if code == 22 {
+        return 2;
+    }
+    if code == 23 {
+        return 2;
+    }
+    if code == 24 {
+        return 4;
+    }
+    if code == 25 {
+        return 4;
+    }
+    if code == 5 {
+        return 4;
+    }
+    if code == 6 {
+        return 8;
+    }
+    0
 }
 
 // Lays a column of a table, so many numbers of 16 bits from an entry on and so many entries apart, from a place of a buffer on.

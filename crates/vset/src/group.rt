@@ -50,7 +50,7 @@ pub(crate) fn parse(part: &[u8]) -> Group
 }
 
 // The number of the rule that a group's bytes break, 0 where they break none.
-pub(crate) fn fault(part: &[u8]) -> usize
+pub fn fault(part: &[u8]) -> usize
     ensures { λ r. ⌜ r ≡ Groups.groupFault (now (part .entry)) ⌝ }
 {
     let group = parse(part);

@@ -1,6 +1,7 @@
 // Heads of Vdatas, tag 1962.
 use super::field::Numbers;
 use super::field::lay_column;
+use super::field::width;
 use super::format::HEAD_TAG;
 use super::format::MOST_FIELDS;
 use super::format::MOST_INTERLACE;
@@ -9,7 +10,6 @@ use super::refusals::TYPE;
 use super::tail;
 use super::tail::Ending;
 use super::tail::Tail;
-use super::value::width;
 use directory::Refusal;
 use directory::refusals::SMALL;
 use records::Packed;
@@ -142,7 +142,7 @@ fn skip_names(part: &[u8], at: usize, count: usize) -> usize
     end
 }
 
-pub(crate) fn parse(part: &[u8]) -> Head
+pub fn parse(part: &[u8]) -> Head
     ensures { λ r. ⌜ r ≡ Layout.read Heads.head (now (part .entry)) 0 ⌝ }
 {
     let fields = wire::read16(part, 8);
@@ -162,7 +162,7 @@ pub(crate) fn parse(part: &[u8]) -> Head
 }
 
 // The numbers of the field of an index, in a record with so many fields.
-pub(crate) fn field_at(part: &[u8], fields: usize, i: usize) -> Numbers
+fn field_at(part: &[u8], fields: usize, i: usize) -> Numbers
     requires { ⌜ (fields ≡ Heads.headIn (now part) .fields) × (i < fields + 65536) ⌝ }
     ensures { λ r. ⌜ (r ≡ Heads.fieldAt (now (part .entry)) (Heads.headIn (now (part .entry))) i) × Steps.Narrow r ⌝ }
 {
@@ -194,7 +194,7 @@ fn fields_fault(part: &[u8], fields: usize, record_size: usize) -> usize
 }
 
 // The number of the rule that a head's bytes break, 0 where they break none.
-pub(crate) fn fault(part: &[u8]) -> usize
+pub fn fault(part: &[u8]) -> usize
     ensures { λ r. ⌜ r ≡ Heads.headFault (now (part .entry)) ⌝ }
 {
     let head = parse(part);
@@ -243,6 +243,13 @@ fn put_names(part: &[u8], start: usize, fields: usize, list: &mut [u32])
         at += 2 + length;
         i += 1;
     }
+}
+
+// The numbers of the field of an index, in a record.
+pub fn numbers_at(part: &[u8], i: u16) -> Numbers
+    ensures { λ r. ⌜ (r ≡ Heads.fieldAt (now (part .entry)) (Heads.headIn (now (part .entry))) i) × Steps.Narrow r ⌝ }
+{
+    field_at(part, wire::read16(part, 8), i as usize)
 }
 
 // The field of an index, in a record.

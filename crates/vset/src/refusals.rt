@@ -1,6 +1,2 @@
-// The refusal numbers of Vgroups and Vdatas, by their names.
+// The refusal number of heads of Vdatas, by its name.
 pub const TYPE: usize = 16;
-
-pub const NO_VALUE: usize = 17;
-
-pub const DEEP: usize = 22;

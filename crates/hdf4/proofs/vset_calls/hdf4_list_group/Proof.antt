@@ -1,7 +1,7 @@
 -- `hdf4::vset_calls::hdf4_list_group` meets its contract. Assumes nothing.
 use native.Mathlib.Omega.{arith}
 use mathlib.Core.Path.{sym, ap, _∙_}
-use Rattle.vset.specs.Listings.{listedNumbers}
+use Rattle.vgroup.specs.Listings.{listedNumbers}
 use borrow.Author.Needs.{needs}
 use Rattle.hdf4.proofs.vset_calls.hdf4_list_group.Statement.{statement}
 use Rattle.hdf4.proofs.vset_calls.hdf4_list_group.Tie as tie

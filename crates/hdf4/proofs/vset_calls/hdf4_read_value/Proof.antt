@@ -1,6 +1,6 @@
 -- `hdf4::vset_calls::hdf4_read_value` meets its contract. Assumes nothing.
 use mathlib.Core.Path.{sym, ap, subst, _∙_}
-use Rattle.vset.specs.Values.{valueNumbers}
+use Rattle.vdata.specs.Values.{valueNumbers}
 use Rattle.hdf4.specs.VsetAnswers.{HasBits}
 use Rattle.hdf4.proofs.Bits
 use borrow.Author.Needs.{needs}

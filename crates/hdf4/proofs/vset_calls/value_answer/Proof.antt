@@ -2,7 +2,7 @@
 use mathlib.Core.Path.{_≡_, ap, subst, _∙_}
 use mir.Syntax.{w64}
 use mir.Val.{toZ, ofZ}
-use Rattle.vset.specs.Types.{complement}
+use Rattle.vdata.specs.Patterns.{complement}
 use mathlib.Core.List.{[], _∷_}
 use Rattle.directory.specs.Answer.{grant}
 use Rattle.hdf4.specs.VsetAnswers.{HasBits}

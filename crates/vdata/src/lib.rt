@@ -1,0 +1,4 @@
+// The values of Vdatas.
+pub mod format;
+pub mod refusals;
+pub mod value;

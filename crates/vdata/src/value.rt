@@ -1,0 +1,211 @@
+// Values of Vdatas, in the element of tag 1963 that has the head's reference.
+use super::format::VALUES_TAG;
+use super::refusals::NO_VALUE;
+use directory::Opened;
+use directory::Refusal;
+use records::refusals::RECORD;
+use storage::view::Located;
+use vset::field::Numbers;
+use vset::field::width;
+use vset::format::HEAD_TAG;
+use vset::head;
+use vset::head::Head;
+ghost use mathlib.Core.Path.{_≡_};
+ghost use Prim.Native.Nat.{_+_, _*_, _≤_, _<_, _^_};
+ghost use Rattle.wire.specs.Numbers.{be};
+ghost use Rattle.storage.specs.Steps.{Opens};
+ghost use Rattle.records.specs.Reading.{recordBytes};
+ghost use Rattle.vset.specs.Limits.{head-tag};
+ghost use Rattle.vset.specs.Heads as Heads;
+ghost use Rattle.vset.specs.Steps as Steps;
+ghost use Rattle.vdata.specs.Limits.{values-tag};
+ghost use Rattle.vdata.specs.Patterns as Patterns;
+ghost use Rattle.vdata.specs.Values as Values;
+
+// A value. A float is made from the element's bits; the pattern of a NaN is kept as a number.
+pub enum Value {
+    Signed(i64),
+    Unsigned(u64),
+    Float32(f32),
+    Float64(f64),
+    Nan32(u32),
+    Nan64(u64),
+}
+
+pub enum Answered {
+    Value(Value),
+    Refused(Refusal),
+}
+
+// A number of two's complement by its pattern, with the half of what its bits can count.
+fn signed(n: usize, half: usize) -> Value
+    requires { ⌜ (n < 2 * half) × (half ≤ 2147483648) ⌝ }
+    ensures { λ r. ⌜ r ≡ Patterns.signedBy n (2 * half) ⌝ }
+{
+    let z = n as i64;
+    if n < half {
+        return Value::Signed(z);
+    }
+    let whole = (2 * half) as i64;
+    Value::Signed(z - whole)
+}
+
+fn float32(n: usize) -> Value
+    requires { ⌜ n < 4294967296 ⌝ }
+    ensures { λ r. ⌜ r ≡ Patterns.float32 n ⌝ }
+{
+    let bits = n as u32;
+    if 2139095040 < bits % 2147483648 {
+        return Value::Nan32(bits);
+    }
+    Value::Float32(f32::from_bits(bits))
+}
+
+fn float64(n: usize) -> Value
+    ensures { λ r. ⌜ r ≡ Patterns.float64 n ⌝ }
+{
+    let bits = n as u64;
+    if 9218868437227405312 < bits % 9223372036854775808 {
+        return Value::Nan64(bits);
+    }
+    Value::Float64(f64::from_bits(bits))
+}
+
+// The value of a type at a place of the values.
+fn value_at(code: usize, part: &[u8], at: usize) -> Value
+    ensures { λ r. ⌜ r ≡ Patterns.valueAt code (now (part .entry)) at ⌝ }
+{
+    if code == 20 {
+        return signed(wire::read8(part, at), 128);
+    }
+    if code == 22 {
+        return signed(wire::read16(part, at), 32768);
+    }
+    if code == 24 {
+        return signed(wire::read32(part, at), 2147483648);
+    }
+    if code == 5 {
+        return float32(wire::read32(part, at));
+    }
+    if code == 6 {
+        return float64(wire::read64(part, at));
+    }
+    let bytes = width(code);
+    if bytes == 0 {
+        return Value::Unsigned(0);
+    }
+    if bytes == 1 {
+        return Value::Unsigned(wire::read8(part, at) as u64);
+    }
+    if bytes == 2 {
+        return Value::Unsigned(wire::read16(part, at) as u64);
+    }
+    Value::Unsigned(wire::read32(part, at) as u64)
+}
+
+// The number of the rule that the indices of a record, a field and a component break, 0 where they break none.
+fn index_fault(h: Head, part: &[u8], record: usize, field: usize, component: usize) -> usize
+    requires { ⌜ h ≡ Heads.headIn (now part) ⌝ }
+    ensures { λ r. ⌜ r ≡ Values.indexFault h (Heads.fieldAt (now (part .entry)) h field) «record» field component ⌝ }
+{
+    if h.records <= record {
+        return NO_VALUE;
+    }
+    if h.fields <= field {
+        return NO_VALUE;
+    }
+    let f = head::numbers_at(part, field as u16);
+    if f.order <= component {
+        return NO_VALUE;
+    }
+    0
+}
+
+// Where a component of a field in a record lies among the values.
+fn place(h: Head, f: Numbers, record: usize, component: usize) -> usize
+    requires { ⌜ (h .records < 4294967296) × (h .«record_size» < 65536) × Steps.Narrow f × («record» < h .records) × (component < f .order) ⌝ }
+    ensures { λ r. ⌜ r ≡ Values.placeOf h f «record» component ⌝ }
+{
+    let width = width(f.code);
+    if h.interlace == 0 {
+        return record * h.record_size + f.offset + component * width;
+    }
+    h.records * f.offset + record * f.size + component * width
+}
+
+// Reads a value of the Vdata of a reference, by the indices of its record, its field and its component.
+pub fn read(image: &[u8], reference: u16, record: u64, field: u64, component: u64) -> Answered
+    ensures { λ r. ⌜ Values.Gives (Values.valueOf (now (image .entry)) reference «record» field component) (Values.valueIn (recordBytes (now (image .entry)) head-tag reference) (recordBytes (now (image .entry)) values-tag reference) «record» field component) r ⌝ }
+{
+    let opened = directory::open(image);
+    let Opened::Accepted(counts) = opened else {
+        return Answered::Refused(directory::refusal_of(opened));
+    };
+    let located = storage::view::locate(image, counts.blocks, HEAD_TAG, reference);
+    let Located::Plain {
+        slot,
+        offset,
+        length,
+    } = located
+    else {
+        return Answered::Refused(storage::view::refusal_of(located));
+    };
+    let part = &image[offset..offset + length];
+    let number = head::fault(part);
+    if number != 0 {
+        return Answered::Refused(Refusal {
+            number,
+            place: slot,
+        });
+    }
+    read_in(
+        image,
+        counts.blocks,
+        reference,
+        part,
+        record as usize,
+        field as usize,
+        component as usize,
+    )
+}
+
+// The same where the head is sound.
+fn read_in(
+    image: &[u8],
+    blocks: usize,
+    reference: u16,
+    part: &[u8],
+    record: usize,
+    field: usize,
+    component: usize,
+) -> Answered
+    requires { ⌜ Opens (now image) blocks × (Heads.headFault (now part) ≡ 0) ⌝ }
+    ensures { λ r. ⌜ Values.Gives (Values.valueAfter (now (image .entry)) (now (part .entry)) reference «record» field component) (Values.valueIn (now (part .entry)) (recordBytes (now (image .entry)) values-tag reference) «record» field component) r ⌝ }
+{
+    let h = head::parse(part);
+    let number = index_fault(h, part, record, field, component);
+    if number != 0 {
+        return Answered::Refused(Refusal { number, place: 0 });
+    }
+    let located = storage::view::locate(image, blocks, VALUES_TAG, reference);
+    let Located::Plain {
+        slot,
+        offset,
+        length,
+    } = located
+    else {
+        return Answered::Refused(storage::view::refusal_of(located));
+    };
+    if length < h.records * h.record_size {
+        return Answered::Refused(Refusal {
+            number: RECORD,
+            place: slot,
+        });
+    }
+    let f = head::numbers_at(part, field as u16);
+    Answered::Value(value_at(
+        f.code,
+        &image[offset..offset + length],
+        place(h, f, record, component),
+    ))
+}

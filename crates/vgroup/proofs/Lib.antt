@@ -1,0 +1,4 @@
+pub mod Walking
+pub mod Nesting
+pub mod Pairing
+pub mod ListClaims

@@ -1,0 +1,2 @@
+// The refusal number of a listing, by its name.
+pub const DEEP: usize = 22;
