@@ -18,7 +18,7 @@ use Rattle.vset.specs.Limits.{most-interlace, most-fields}
 use Rattle.vset.specs.Columns.{every}
 use Rattle.vset.specs.Tails.{tail, tailNumbers, tailPackFault}
 use Rattle.vset.specs.Heads.{names, rowAt, fieldsIn, fieldsFault, namesApart, total, headBytes, headPackFault}
-use Rattle.vset.specs.Steps.{judge, judgeAll, verdict, namesBytes}
+use Rattle.vset.specs.Steps.{judge, judgeAll, verdict, startBytes, columnBytes, columnsBytes, namesBytes}
 use Rattle.vset.specs.declared.tail.Tail.{Tail}
 use Rattle.vset.specs.declared.tail.Ending.{Ending}
 use Rattle.vset.specs.declared.field.Numbers.{Numbers}
@@ -205,13 +205,38 @@ module _ {A : Type 0} (f : Tail → A) where
 
 -- ---- The bytes of a head
 
--- the bytes of a column of the rows
+-- a column of the rows
 abbrev pub column : List ℕ → List ℕ → ℕ → List ℕ
-column rows lengths first = bytesEach 2 (every first 4 (length lengths) rows)
+column rows lengths first = columnBytes rows (length lengths) first
 
-length-column : (rows lengths : List ℕ) (first : ℕ) → length (column rows lengths first) ≡ 2 * length lengths
-length-column rows lengths first =
-    let n = length lengths in length-bytesEach 2 (every first 4 n rows) ∙ ap (λ k. 2 * k) (length-every first 4 n rows)
+length-column : (rows : List ℕ) (n first : ℕ) → length (columnBytes rows n first) ≡ 2 * n
+length-column rows n first = length-bytesEach 2 (every first 4 n rows) ∙ ap (λ k. 2 * k) (length-every first 4 n rows)
+
+length-columns : (rows : List ℕ) (n : ℕ) → length (columnsBytes rows n) ≡ 8 * n
+length-columns rows n =
+    simp length-append (omega (arith, length-column rows n 0, length-column rows n 1, length-column rows n 2, length-column rows n 3))
+
+length-start : (b : Start) (n : ℕ) → length (startBytes b n) ≡ 10
+length-start b n = simp (length-append, length-bytes)
+
+-- the start, number by number
+pub laid-start : (out : List ℕ) (b : Start) (n : ℕ) (s₀ s₁ s₂ s₃ : List ℕ) → s₀ ≡ put out 0 (bytes 2 (b .interlace))
+    → s₁ ≡ put s₀ 2 (bytes 4 (b .records)) → s₂ ≡ put s₁ 6 (bytes 2 (b .«record_size»)) → s₃ ≡ put s₂ 8 (bytes 2 n) → s₃ ≡ put out 0 (startBytes b n)
+laid-start out b n s₀ s₁ s₂ s₃ e₀ e₁ e₂ e₃ =
+    rw (e₃, e₂, e₁, e₀)
+    (put-after _ _ _ _ _ (omega (arith, length-bytes 2 (b .«record_size»)))
+    ∙ put-after _ _ _ _ _ (omega (arith, length-bytes 4 (b .records)))
+    ∙ put-after _ _ _ _ _ (omega (arith, length-bytes 2 (b .interlace))))
+
+-- the columns, one after the other
+pub laid-columns : (out rows : List ℕ) (n : ℕ) (s₀ s₁ s₂ s₃ : List ℕ) → s₀ ≡ put out 10 (columnBytes rows n 0)
+    → s₁ ≡ put s₀ (10 + 2 * n) (columnBytes rows n 1) → s₂ ≡ put s₁ (10 + 4 * n) (columnBytes rows n 2) → s₃ ≡ put s₂ (10 + 6 * n) (columnBytes rows n 3)
+    → s₃ ≡ put out 10 (columnsBytes rows n)
+laid-columns out rows n s₀ s₁ s₂ s₃ e₀ e₁ e₂ e₃ =
+    rw (e₃, e₂, e₁, e₀)
+    (put-after _ _ _ _ _ (omega (arith, length-column rows n 2))
+    ∙ put-after _ _ _ _ _ (omega (arith, length-column rows n 1))
+    ∙ put-after _ _ _ _ _ (omega (arith, length-column rows n 0)))
 
 -- a head with this start, so many fields and this tail, its lists one after the other
 abbrev pub startedHead : Start → ℕ → Tail → Head
@@ -272,26 +297,18 @@ module _ (b : Start) (rows lengths all name class : List ℕ) (x : Ending) (told
       let enough : total lengths ≤ length all = omega arith in
       ap length head-bytes
       ∙ simp (length-append, length-bytes)
-      (omega (arith, length-column rows lengths 0, length-column rows lengths 1, length-column rows lengths 2, length-column rows lengths 3, length-names lengths all enough))
+      (let n = length lengths in omega (arith, length-column rows n 0, length-column rows n 1, length-column rows n 2, length-column rows n 3, length-names lengths all enough))
 
-  -- a head laid field by field
-  pub laid-head : (out s₀ s₁ s₂ s₃ s₄ s₅ s₆ s₇ s₈ s₉ : List ℕ) → let n = length lengths in
-      s₀ ≡ put out 0 (bytes 2 (b .interlace)) → s₁ ≡ put s₀ 2 (bytes 4 (b .records)) → s₂ ≡ put s₁ 6 (bytes 2 (b .«record_size»)) → s₃ ≡ put s₂ 8 (bytes 2 n)
-      → s₄ ≡ put s₃ 10 (column rows lengths 0) → s₅ ≡ put s₄ (10 + 2 * n) (column rows lengths 1)
-      → s₆ ≡ put s₅ (10 + 4 * n) (column rows lengths 2) → s₇ ≡ put s₆ (10 + 6 * n) (column rows lengths 3)
-      → s₈ ≡ put s₇ (10 + 8 * n) (namesBytes lengths all)
-      → s₉ ≡ put s₈ (10 + 10 * n + length all) (pack (tail (λ t. t)) (tailNumbers name class x) (10 + 10 * n + length all))
-      → s₉ ≡ put out 0 (headBytes b rows lengths all name class x)
-  laid-head out s₀ s₁ s₂ s₃ s₄ s₅ s₆ s₇ s₈ s₉ e₀ e₁ e₂ e₃ e₄ e₅ e₆ e₇ e₈ e₉ =
+  -- a head laid part by part
+  pub laid-head : (out s₀ s₁ s₂ s₃ : List ℕ) → let n = length lengths in
+      s₀ ≡ put out 0 (startBytes b n) → s₁ ≡ put s₀ 10 (columnsBytes rows n) → s₂ ≡ put s₁ (10 + 8 * n) (namesBytes lengths all)
+      → s₃ ≡ put s₂ (10 + 10 * n + length all) (pack (tail (λ t. t)) (tailNumbers name class x) (10 + 10 * n + length all))
+      → s₃ ≡ put out 0 (headBytes b rows lengths all name class x)
+  laid-head out s₀ s₁ s₂ s₃ e₀ e₁ e₂ e₃ =
       let n = length lengths in
       let enough : total lengths ≤ length all = omega arith in
-      rw (e₉, e₈, e₇, e₆, e₅, e₄, e₃, e₂, e₁, e₀, pack-tail (λ t. t) name class x (10 + 10 * n + length all) named classed, head-bytes)
+      rw (e₃, e₂, e₁, e₀, pack-tail (λ t. t) name class x (10 + 10 * n + length all) named classed, head-bytes)
       (put-after _ _ _ _ _ (omega (arith, length-names lengths all enough))
-      ∙ put-after _ _ _ _ _ (omega (arith, length-column rows lengths 3))
-      ∙ put-after _ _ _ _ _ (omega (arith, length-column rows lengths 2))
-      ∙ put-after _ _ _ _ _ (omega (arith, length-column rows lengths 1))
-      ∙ put-after _ _ _ _ _ (omega (arith, length-column rows lengths 0))
-      ∙ put-after _ _ _ _ _ (omega (arith, length-bytes 2 n))
-      ∙ put-after _ _ _ _ _ (omega (arith, length-bytes 2 (b .«record_size»)))
-      ∙ put-after _ _ _ _ _ (omega (arith, length-bytes 4 (b .records)))
-      ∙ put-after _ _ _ _ _ (omega (arith, length-bytes 2 (b .interlace))))
+      ∙ put-after _ _ _ _ _ (omega (arith, length-columns rows n))
+      ∙ put-after _ _ _ _ _ (omega (arith, length-start b n))
+      ∙ ap (put out 0) (simp append-assoc))

@@ -4,7 +4,7 @@ use native.Mathlib.Nat.{one-mul}
 use native.Mathlib.Omega.{arith}
 use mathlib.Core.Path.{_≡_, refl, sym, ap, _∙_}
 use mathlib.Core.Logic.{inl, inr}
-use mathlib.Core.List.{List, [], _∷_, _++_, append-nil}
+use mathlib.Core.List.{List, [], _∷_, _++_, append-assoc, append-nil}
 use lib.ListN.{length, getD, take, drop, length-append}
 use lib.Seq.{take-append-seam, drop-append-seam}
 use lib.Dec.{leb, eqb}
@@ -19,6 +19,7 @@ use Rattle.records.specs.Layout.{read, extent, numbers, pack, given, bytesEach,
 use Rattle.records.proofs.Layouts.{numbersAt-part}
 use Rattle.vset.specs.Limits.{only-version}
 use Rattle.vset.specs.Tails.{tail, tailNumbers, tailPackFault}
+use Rattle.vset.specs.Steps.{textBytes, endingBytes}
 use Rattle.vset.specs.declared.tail.Tail.{Tail}
 use Rattle.vset.specs.declared.tail.Ending.{Ending}
 
@@ -178,24 +179,31 @@ tail-parts f e at name class x h q =
 pub put-after : (s : List ℕ) (at b : ℕ) (vs ws : List ℕ) → b ≡ at + length vs → put (put s at vs) b ws ≡ put s at (vs ++ ws)
 put-after s at b vs ws e = rw e (put-put s at vs ws)
 
-pub laid-tail : (out name class : List ℕ) (at : ℕ) (x : Ending) → Bytes name → Bytes class → (a b c d e f g h : List ℕ)
-    → a ≡ put out at (bytes 2 (length name)) → b ≡ put a (at + 2) name
-    → c ≡ put b (at + 2 + length name) (bytes 2 (length class)) → d ≡ put c (at + 2 + length name + 2) class
-    → e ≡ put d (at + 2 + length name + 2 + length class) (bytes 2 (x .«extension_tag»))
-    → f ≡ put e (at + 2 + length name + 2 + length class + 2) (bytes 2 (x .«extension_ref»))
-    → g ≡ put f (at + 2 + length name + 2 + length class + 4) (bytes 2 (x .version))
-    → h ≡ put g (at + 2 + length name + 2 + length class + 6) (bytes 2 (x .more))
-    → h ≡ put out at (pack (tail (λ t. t)) (tailNumbers name class x) at)
-laid-tail out name class at x n k a b c d e f g h ea eb ec ed ee ef eg eh =
+pub laid-text : (out text : List ℕ) (at : ℕ) (a b : List ℕ) → a ≡ put out at (bytes 2 (length text)) → b ≡ put a (at + 2) text → b ≡ put out at (textBytes text)
+laid-text out text at a b ea eb = rw (eb, ea) (put-after _ _ _ _ _ (omega (arith, length-bytes 2 (length text))))
+
+pub laid-ending : (out : List ℕ) (at : ℕ) (x : Ending) (a b c d : List ℕ) → a ≡ put out at (bytes 2 (x .«extension_tag»))
+    → b ≡ put a (at + 2) (bytes 2 (x .«extension_ref»)) → c ≡ put b (at + 4) (bytes 2 (x .version)) → d ≡ put c (at + 6) (bytes 2 (x .more))
+    → d ≡ put out at (endingBytes x)
+laid-ending out at x a b c d ea eb ec ed =
     let two : (y : ℕ) → length (bytes 2 y) ≡ 2 = length-bytes 2 in
-    rw (eh, eg, ef, ee, ed, ec, eb, ea, pack-tail (λ t. t) name class x at n k)
+    rw (ed, ec, eb, ea)
     (put-after _ _ _ _ _ (omega (arith, two (x .version)))
     ∙ put-after _ _ _ _ _ (omega (arith, two (x .«extension_ref»)))
-    ∙ put-after _ _ _ _ _ (omega (arith, two (x .«extension_tag»)))
-    ∙ put-after _ _ _ _ _ (omega arith)
-    ∙ put-after _ _ _ _ _ (omega (arith, two (length class)))
-    ∙ put-after _ _ _ _ _ (omega arith)
-    ∙ put-after _ _ _ _ _ (omega (arith, two (length name))))
+    ∙ put-after _ _ _ _ _ (omega (arith, two (x .«extension_tag»))))
+
+length-text : (text : List ℕ) → length (textBytes text) ≡ 2 + length text
+length-text text = simp (length-append, length-bytes)
+
+pub laid-tail : (out name class : List ℕ) (at : ℕ) (x : Ending) → Bytes name → Bytes class → (a b c : List ℕ)
+    → a ≡ put out at (textBytes name) → b ≡ put a (at + 2 + length name) (textBytes class)
+    → c ≡ put b (at + 2 + length name + 2 + length class) (endingBytes x)
+    → c ≡ put out at (pack (tail (λ t. t)) (tailNumbers name class x) at)
+laid-tail out name class at x n k a b c ea eb ec =
+    rw (ec, eb, ea, pack-tail (λ t. t) name class x at n k)
+    (put-after _ _ _ _ _ (omega (arith, length-text class))
+    ∙ put-after _ _ _ _ _ (omega (arith, length-text name))
+    ∙ ap (put out at) (simp append-assoc))
 
 -- ---- Rules
 

@@ -9,11 +9,15 @@ use Rattle.wire.specs.Numbers.{bytes, part}
 use Rattle.directory.specs.Limits.{most-bytes}
 use Rattle.directory.specs.Search.{must}
 use Rattle.records.specs.Limits.{RECORD}
+use Rattle.records.specs.Layout.{bytesEach}
 use Rattle.records.specs.Reading.{recordBytes}
 use Rattle.vset.specs.Limits.{head-tag, most-fields, TYPE}
+use Rattle.vset.specs.Columns.{every}
 use Rattle.vset.specs.Types.{widthOf}
 use Rattle.vset.specs.Heads.{headIn, startOf}
+use Rattle.vset.specs.declared.tail.Ending.{Ending}
 use Rattle.vset.specs.declared.field.Numbers.{Numbers}
+use Rattle.vset.specs.declared.head.Start.{Start}
 use Rattle.vset.specs.declared.head.Judged.{Judged}
 use Rattle.vset.specs.declared.head.Head.{Head}
 use Rattle.vset.specs.declared.head.Answered.{Answered}
@@ -42,6 +46,26 @@ judgeAll j (f ∷ fs) = judgeAll (judge j f) fs
 
 unfoldable pub verdict : Judged → ℕ → ℕ
 verdict j record-size = must (j .orders) RECORD (must (j .types) TYPE (must (j .sizes && eqb record-size (j .sum)) RECORD 0))
+
+-- a text with its length before it
+abbrev pub textBytes : List ℕ → List ℕ
+textBytes text = bytes 2 (length text) ++ text
+
+-- the numbers after name and class
+abbrev pub endingBytes : Ending → List ℕ
+endingBytes x = bytes 2 (x .«extension_tag») ++ (bytes 2 (x .«extension_ref») ++ (bytes 2 (x .version) ++ bytes 2 (x .more)))
+
+-- the numbers that a head with so many fields starts with
+abbrev pub startBytes : Start → ℕ → List ℕ
+startBytes b n = bytes 2 (b .interlace) ++ (bytes 4 (b .records) ++ (bytes 2 (b .«record_size») ++ bytes 2 n))
+
+-- a column of so many rows
+abbrev pub columnBytes : List ℕ → ℕ → ℕ → List ℕ
+columnBytes rows n first = bytesEach 2 (every first 4 n rows)
+
+-- their types, sizes, offsets and orders
+abbrev pub columnsBytes : List ℕ → ℕ → List ℕ
+columnsBytes rows n = columnBytes rows n 0 ++ (columnBytes rows n 1 ++ (columnBytes rows n 2 ++ columnBytes rows n 3))
 
 -- the names, each with its length before it
 unfoldable pub namesBytes : List ℕ → List ℕ → List ℕ

@@ -411,6 +411,27 @@ fn lay_names(out: &mut [u8], at: usize, lengths: &[u16], names: &[u8])
     }
 }
 
+// Lays the numbers that a head starts with into the front of a buffer.
+fn lay_start(out: &mut [u8], b: Start, count: usize)
+    ensures { λ _. ⌜ now (out .exit) ≡ put (now (out .entry)) 0 (Steps.startBytes b count) ⌝ }
+{
+    wire::write16(out, 0, b.interlace as usize);
+    wire::write32(out, 2, b.records as usize);
+    wire::write16(out, 6, b.record_size as usize);
+    wire::write16(out, 8, count);
+}
+
+// Lays the types, sizes, offsets and orders of rows after these.
+fn lay_columns(out: &mut [u8], rows: &[u16], count: usize)
+    requires { ⌜ (10 + 8 * count ≤ length (now out)) × (4 * count ≤ length (now rows)) ⌝ }
+    ensures { λ _. ⌜ now (out .exit) ≡ put (now (out .entry)) 10 (Steps.columnsBytes (now (rows .entry)) count) ⌝ }
+{
+    lay_column(out, 10, rows, 0, 4, count);
+    lay_column(out, 10 + 2 * count, rows, 1, 4, count);
+    lay_column(out, 10 + 4 * count, rows, 2, 4, count);
+    lay_column(out, 10 + 6 * count, rows, 3, 4, count);
+}
+
 // Packs a head into the front of a lent buffer: rows of type, size, offset and order of each field, the lengths of their names, and the
 // names one after the other.
 pub fn pack(
@@ -445,14 +466,8 @@ pub fn pack(
             place: 0,
         });
     }
-    wire::write16(out, 0, b.interlace as usize);
-    wire::write32(out, 2, b.records as usize);
-    wire::write16(out, 6, b.record_size as usize);
-    wire::write16(out, 8, count);
-    lay_column(out, 10, rows, 0, 4, count);
-    lay_column(out, 10 + 2 * count, rows, 1, 4, count);
-    lay_column(out, 10 + 4 * count, rows, 2, 4, count);
-    lay_column(out, 10 + 6 * count, rows, 3, 4, count);
+    lay_start(out, b, count);
+    lay_columns(out, rows, count);
     lay_names(out, 10 + 8 * count, lengths, names);
     tail::lay(out, 10 + 10 * count + names.len(), name, class, x);
     Packed::Bytes(length)

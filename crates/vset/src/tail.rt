@@ -8,6 +8,7 @@ ghost use lib.ListN.{length};
 ghost use Rattle.wire.specs.Numbers.{put};
 ghost use Rattle.records.specs.Layout as Layout;
 ghost use Rattle.vset.specs.Tails as Tails;
+ghost use Rattle.vset.specs.Steps as Steps;
 
 // Where name and class stand in the record and how long they are, the last numbers, and where the record ends.
 pub struct Tail {
@@ -69,19 +70,33 @@ pub(crate) fn pack_fault(name: usize, class: usize, version: usize) -> usize
     0
 }
 
+// Lays a text with its length before it, from a place of a buffer on.
+fn lay_text(out: &mut [u8], at: usize, text: &[u8])
+    requires { ⌜ at + (2 + length (now text)) ≤ length (now out) ⌝ }
+    ensures { λ _. ⌜ now (out .exit) ≡ put (now (out .entry)) at (Steps.textBytes (now (text .entry))) ⌝ }
+{
+    wire::write16(out, at, text.len());
+    wire::write_bytes(out, at + 2, text);
+}
+
+// Lays the numbers after name and class, from a place of a buffer on.
+fn lay_ending(out: &mut [u8], at: usize, x: Ending)
+    requires { ⌜ at + 8 ≤ length (now out) ⌝ }
+    ensures { λ _. ⌜ now (out .exit) ≡ put (now (out .entry)) at (Steps.endingBytes x) ⌝ }
+{
+    wire::write16(out, at, x.extension_tag as usize);
+    wire::write16(out, at + 2, x.extension_ref as usize);
+    wire::write16(out, at + 4, x.version as usize);
+    wire::write16(out, at + 6, x.more as usize);
+}
+
 // Lays a tail from a place of a buffer on.
 pub(crate) fn lay(out: &mut [u8], at: usize, name: &[u8], class: &[u8], x: Ending)
     requires { ⌜ at + (12 + length (now name) + length (now class)) ≤ length (now out) ⌝ }
     ensures { λ _. ⌜ now (out .exit) ≡ put (now (out .entry)) at (Layout.pack (Tails.tail (λ t. t)) (Tails.tailNumbers (now (name .entry)) (now (class .entry)) x) at) ⌝ }
 {
-    wire::write16(out, at, name.len());
-    wire::write_bytes(out, at + 2, name);
+    lay_text(out, at, name);
     let second = at + 2 + name.len();
-    wire::write16(out, second, class.len());
-    wire::write_bytes(out, second + 2, class);
-    let last = second + 2 + class.len();
-    wire::write16(out, last, x.extension_tag as usize);
-    wire::write16(out, last + 2, x.extension_ref as usize);
-    wire::write16(out, last + 4, x.version as usize);
-    wire::write16(out, last + 6, x.more as usize);
+    lay_text(out, second, class);
+    lay_ending(out, second + 2 + class.len(), x);
 }

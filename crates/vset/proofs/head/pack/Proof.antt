@@ -56,105 +56,41 @@ add-length-4 c = let s = sound c in omega (arith, low c, s .tail-sound .name-sho
 returns-2 : tie.Need-returns-2
 returns-2 c = Packings.packs-small _ _ _ (sym (c .before .before .pack-fault .ensures) ∙ c .before .if1 .left) (omega (arith, long (c .before), c .if2 .taken))
 
-cast-write16 : tie.Need-cast-write16
-cast-write16 c = search needs
+lay-start-requires : tie.Need-lay-start-requires
+lay-start-requires c κs = search needs
 
-write16-requires : tie.Need-write16-requires
-write16-requires c κs = search needs
-
-cast-write32 : tie.Need-cast-write32
-cast-write32 c = search needs
-
-write32-requires : tie.Need-write32-requires
-write32-requires c κs = search needs
-
-cast-write16-2 : tie.Need-cast-write16-2
-cast-write16-2 c = search needs
-
-write16-requires-2 : tie.Need-write16-requires-2
-write16-requires-2 c κs = search needs
-
-write16-requires-3 : tie.Need-write16-requires-3
-write16-requires-3 c κs = search needs
-
-lay-column-requires : tie.Need-lay-column-requires
-lay-column-requires c κs = let s = sound (c .before .before .before .before .before .before .before .before .before .before .before .before .before .before .before .before .before .before .before .before .before) in let r = room (c .before .before .before .before .before .before .before .before .before .before .before .before .before .before .before .before .before .before .before .before) in (omega (arith, c .before .before .before .before .before .before .before .before .before .before .before .before .before .before .before .before .before .write16 .kept .0, c .before .before .before .before .before .before .before .before .before .before .before .before .write32 .kept .0, c .before .before .before .before .before .before .before .write162 .kept .0, c .before .before .before .write163 .kept .0), omega arith, omega arith, omega arith)
-
-mul-lay-column : tie.Need-mul-lay-column
-mul-lay-column c = let s = sound (c .before .before .before .before .before .before .before .before .before .before .before .before .before .before .before .before .before .before .before .before .before .before .before .before .before) in let r = room (c .before .before .before .before .before .before .before .before .before .before .before .before .before .before .before .before .before .before .before .before .before .before .before .before) in omega arith
-
-add-lay-column : tie.Need-add-lay-column
-add-lay-column c = let s = sound (c .before .before .before .before .before .before .before .before .before .before .before .before .before .before .before .before .before .before .before .before .before .before .before .before .before) in let r = room (c .before .before .before .before .before .before .before .before .before .before .before .before .before .before .before .before .before .before .before .before .before .before .before .before) in omega arith
-
-lay-column-requires-2 : tie.Need-lay-column-requires-2
-lay-column-requires-2 c κs = let s = sound (c .before .before .before .before .before .before .before .before .before .before .before .before .before .before .before .before .before .before .before .before .before .before .before .before .before) in let r = room (c .before .before .before .before .before .before .before .before .before .before .before .before .before .before .before .before .before .before .before .before .before .before .before .before) in (omega (arith, c .before .before .before .before .before .before .before .before .before .before .before .before .before .before .before .before .before .before .before .before .before .write16 .kept .0, c .before .before .before .before .before .before .before .before .before .before .before .before .before .before .before .before .write32 .kept .0, c .before .before .before .before .before .before .before .before .before .before .before .write162 .kept .0, c .before .before .before .before .before .before .before .write163 .kept .0, c .before .before .before .lay-column .kept .0), omega arith, omega arith, omega arith)
-
-mul-lay-column-2 : tie.Need-mul-lay-column-2
-mul-lay-column-2 c = let s = sound (c .before .before .before .before .before .before .before .before .before .before .before .before .before .before .before .before .before .before .before .before .before .before .before .before .before .before .before .before .before) in let r = room (c .before .before .before .before .before .before .before .before .before .before .before .before .before .before .before .before .before .before .before .before .before .before .before .before .before .before .before .before) in omega arith
-
-add-lay-column-2 : tie.Need-add-lay-column-2
-add-lay-column-2 c = let s = sound (c .before .before .before .before .before .before .before .before .before .before .before .before .before .before .before .before .before .before .before .before .before .before .before .before .before .before .before .before .before) in let r = room (c .before .before .before .before .before .before .before .before .before .before .before .before .before .before .before .before .before .before .before .before .before .before .before .before .before .before .before .before) in omega arith
-
-lay-column-requires-3 : tie.Need-lay-column-requires-3
-lay-column-requires-3 c κs = let s = sound (c .before .before .before .before .before .before .before .before .before .before .before .before .before .before .before .before .before .before .before .before .before .before .before .before .before .before .before .before .before) in let r = room (c .before .before .before .before .before .before .before .before .before .before .before .before .before .before .before .before .before .before .before .before .before .before .before .before .before .before .before .before) in (omega (arith, c .before .before .before .before .before .before .before .before .before .before .before .before .before .before .before .before .before .before .before .before .before .before .before .before .before .write16 .kept .0, c .before .before .before .before .before .before .before .before .before .before .before .before .before .before .before .before .before .before .before .before .write32 .kept .0, c .before .before .before .before .before .before .before .before .before .before .before .before .before .before .before .write162 .kept .0, c .before .before .before .before .before .before .before .before .before .before .before .write163 .kept .0, c .before .before .before .before .before .before .before .lay-column .kept .0, c .before .before .before .lay-column2 .kept .0), omega arith, omega arith, omega arith)
-
-mul-lay-column-3 : tie.Need-mul-lay-column-3
-mul-lay-column-3 c = let s = sound (c .before .before .before .before .before .before .before .before .before .before .before .before .before .before .before .before .before .before .before .before .before .before .before .before .before .before .before .before .before .before .before .before .before) in let r = room (c .before .before .before .before .before .before .before .before .before .before .before .before .before .before .before .before .before .before .before .before .before .before .before .before .before .before .before .before .before .before .before .before) in omega arith
-
-add-lay-column-3 : tie.Need-add-lay-column-3
-add-lay-column-3 c = let s = sound (c .before .before .before .before .before .before .before .before .before .before .before .before .before .before .before .before .before .before .before .before .before .before .before .before .before .before .before .before .before .before .before .before .before) in let r = room (c .before .before .before .before .before .before .before .before .before .before .before .before .before .before .before .before .before .before .before .before .before .before .before .before .before .before .before .before .before .before .before .before) in omega arith
-
-lay-column-requires-4 : tie.Need-lay-column-requires-4
-lay-column-requires-4 c κs = let s = sound (c .before .before .before .before .before .before .before .before .before .before .before .before .before .before .before .before .before .before .before .before .before .before .before .before .before .before .before .before .before .before .before .before .before) in let r = room (c .before .before .before .before .before .before .before .before .before .before .before .before .before .before .before .before .before .before .before .before .before .before .before .before .before .before .before .before .before .before .before .before) in (omega (arith, c .before .before .before .before .before .before .before .before .before .before .before .before .before .before .before .before .before .before .before .before .before .before .before .before .before .before .before .before .before .write16 .kept .0, c .before .before .before .before .before .before .before .before .before .before .before .before .before .before .before .before .before .before .before .before .before .before .before .before .write32 .kept .0, c .before .before .before .before .before .before .before .before .before .before .before .before .before .before .before .before .before .before .before .write162 .kept .0, c .before .before .before .before .before .before .before .before .before .before .before .before .before .before .before .write163 .kept .0, c .before .before .before .before .before .before .before .before .before .before .before .lay-column .kept .0, c .before .before .before .before .before .before .before .lay-column2 .kept .0, c .before .before .before .lay-column3 .kept .0), omega arith, omega arith, omega arith)
+lay-columns-requires : tie.Need-lay-columns-requires
+lay-columns-requires c κs = let s = sound (c .before .before .before .before .before .before) in let r = room (c .before .before .before .before .before) in (omega (arith, c .before .before .before .lay-start .kept .0), omega arith)
 
 mul-lay-names : tie.Need-mul-lay-names
-mul-lay-names c = let s = sound (c .before .before .before .before .before .before .before .before .before .before .before .before .before .before .before .before .before .before .before .before .before .before .before .before .before .before .before .before .before .before .before .before .before .before .before .before .before) in let r = room (c .before .before .before .before .before .before .before .before .before .before .before .before .before .before .before .before .before .before .before .before .before .before .before .before .before .before .before .before .before .before .before .before .before .before .before .before) in omega arith
+mul-lay-names c = search needs
 
 add-lay-names : tie.Need-add-lay-names
-add-lay-names c = let s = sound (c .before .before .before .before .before .before .before .before .before .before .before .before .before .before .before .before .before .before .before .before .before .before .before .before .before .before .before .before .before .before .before .before .before .before .before .before .before) in let r = room (c .before .before .before .before .before .before .before .before .before .before .before .before .before .before .before .before .before .before .before .before .before .before .before .before .before .before .before .before .before .before .before .before .before .before .before .before) in omega arith
+add-lay-names c = search needs
 
 lay-names-requires : tie.Need-lay-names-requires
-lay-names-requires c κs = let s = sound (c .before .before .before .before .before .before .before .before .before .before .before .before .before .before .before .before .before .before .before .before .before .before .before .before .before .before .before .before .before .before .before .before .before .before .before .before .before) in let r = room (c .before .before .before .before .before .before .before .before .before .before .before .before .before .before .before .before .before .before .before .before .before .before .before .before .before .before .before .before .before .before .before .before .before .before .before .before) in (s .sum, omega (arith, c .before .before .before .before .before .before .before .before .before .before .before .before .before .before .before .before .before .before .before .before .before .before .before .before .before .before .before .before .before .before .before .before .before .write16 .kept .0, c .before .before .before .before .before .before .before .before .before .before .before .before .before .before .before .before .before .before .before .before .before .before .before .before .before .before .before .before .write32 .kept .0, c .before .before .before .before .before .before .before .before .before .before .before .before .before .before .before .before .before .before .before .before .before .before .before .write162 .kept .0, c .before .before .before .before .before .before .before .before .before .before .before .before .before .before .before .before .before .before .before .write163 .kept .0, c .before .before .before .before .before .before .before .before .before .before .before .before .before .before .before .lay-column .kept .0, c .before .before .before .before .before .before .before .before .before .before .before .lay-column2 .kept .0, c .before .before .before .before .before .before .before .lay-column3 .kept .0, c .before .before .before .lay-column4 .kept .0))
+lay-names-requires c κs = let s = sound (c .before .before .before .before .before .before .before .before .before .before) in let r = room (c .before .before .before .before .before .before .before .before .before) in (s .sum, omega (arith, c .before .before .before .before .before .before .before .lay-start .kept .0, c .before .before .before .lay-columns .kept .0))
 
 mul-lay : tie.Need-mul-lay
-mul-lay c = let s = sound (c .before .before .before .before .before .before .before .before .before .before .before .before .before .before .before .before .before .before .before .before .before .before .before .before .before .before .before .before .before .before .before .before .before .before .before .before .before .before .before .before .before) in let r = room (c .before .before .before .before .before .before .before .before .before .before .before .before .before .before .before .before .before .before .before .before .before .before .before .before .before .before .before .before .before .before .before .before .before .before .before .before .before .before .before .before) in omega arith
+mul-lay c = let s = sound (c .before .before .before .before .before .before .before .before .before .before .before .before .before .before) in let r = room (c .before .before .before .before .before .before .before .before .before .before .before .before .before) in omega arith
 
 add-lay : tie.Need-add-lay
-add-lay c = let s = sound (c .before .before .before .before .before .before .before .before .before .before .before .before .before .before .before .before .before .before .before .before .before .before .before .before .before .before .before .before .before .before .before .before .before .before .before .before .before .before .before .before .before) in let r = room (c .before .before .before .before .before .before .before .before .before .before .before .before .before .before .before .before .before .before .before .before .before .before .before .before .before .before .before .before .before .before .before .before .before .before .before .before .before .before .before .before) in omega arith
+add-lay c = let s = sound (c .before .before .before .before .before .before .before .before .before .before .before .before .before .before) in let r = room (c .before .before .before .before .before .before .before .before .before .before .before .before .before) in omega arith
 
 add-lay-2 : tie.Need-add-lay-2
-add-lay-2 c = let s = sound (c .before .before .before .before .before .before .before .before .before .before .before .before .before .before .before .before .before .before .before .before .before .before .before .before .before .before .before .before .before .before .before .before .before .before .before .before .before .before .before .before .before) in let r = room (c .before .before .before .before .before .before .before .before .before .before .before .before .before .before .before .before .before .before .before .before .before .before .before .before .before .before .before .before .before .before .before .before .before .before .before .before .before .before .before .before) in omega (arith, low (c .before .before .before .before .before .before .before .before .before .before .before .before .before .before .before .before .before .before .before .before .before .before .before .before .before .before .before .before .before .before .before .before .before .before .before .before .before .before .before .before .before))
+add-lay-2 c = let s = sound (c .before .before .before .before .before .before .before .before .before .before .before .before .before .before) in let r = room (c .before .before .before .before .before .before .before .before .before .before .before .before .before) in omega (arith, low (c .before .before .before .before .before .before .before .before .before .before .before .before .before .before))
 
 lay-requires : tie.Need-lay-requires
-lay-requires c κs = let s = sound (c .before .before .before .before .before .before .before .before .before .before .before .before .before .before .before .before .before .before .before .before .before .before .before .before .before .before .before .before .before .before .before .before .before .before .before .before .before .before .before .before .before) in let r = room (c .before .before .before .before .before .before .before .before .before .before .before .before .before .before .before .before .before .before .before .before .before .before .before .before .before .before .before .before .before .before .before .before .before .before .before .before .before .before .before .before) in omega (arith, c .before .before .before .before .before .before .before .before .before .before .before .before .before .before .before .before .before .before .before .before .before .before .before .before .before .before .before .before .before .before .before .before .before .before .before .before .before .write16 .kept .0, c .before .before .before .before .before .before .before .before .before .before .before .before .before .before .before .before .before .before .before .before .before .before .before .before .before .before .before .before .before .before .before .before .write32 .kept .0, c .before .before .before .before .before .before .before .before .before .before .before .before .before .before .before .before .before .before .before .before .before .before .before .before .before .before .before .write162 .kept .0, c .before .before .before .before .before .before .before .before .before .before .before .before .before .before .before .before .before .before .before .before .before .before .before .write163 .kept .0, c .before .before .before .before .before .before .before .before .before .before .before .before .before .before .before .before .before .before .before .lay-column .kept .0, c .before .before .before .before .before .before .before .before .before .before .before .before .before .before .before .lay-column2 .kept .0, c .before .before .before .before .before .before .before .before .before .before .before .lay-column3 .kept .0, c .before .before .before .before .before .before .before .lay-column4 .kept .0, c .before .before .before .lay-names .kept .0)
+lay-requires c κs = let s = sound (c .before .before .before .before .before .before .before .before .before .before .before .before .before .before) in let r = room (c .before .before .before .before .before .before .before .before .before .before .before .before .before) in omega (arith, c .before .before .before .before .before .before .before .before .before .before .before .lay-start .kept .0, c .before .before .before .before .before .before .before .lay-columns .kept .0, c .before .before .before .lay-names .kept .0)
 
 same-length : tie.Need-same-length
-same-length c =
-    c .before .before .lay .kept .0
-    ∙ c .before .before .before .before .before .before .lay-names .kept .0
-    ∙ c .before .before .before .before .before .before .before .before .before .before .lay-column4 .kept .0
-    ∙ c .before .before .before .before .before .before .before .before .before .before .before .before .before .before .lay-column3 .kept .0
-    ∙ c .before .before .before .before .before .before .before .before .before .before .before .before .before .before .before .before .before .before .lay-column2 .kept .0
-    ∙ c .before .before .before .before .before .before .before .before .before .before .before .before .before .before .before .before .before .before .before .before .before .before .lay-column .kept .0
-    ∙ c .before .before .before .before .before .before .before .before .before .before .before .before .before .before .before .before .before .before .before .before .before .before .before .before .before .before .write163 .kept .0
-    ∙ c .before .before .before .before .before .before .before .before .before .before .before .before .before .before .before .before .before .before .before .before .before .before .before .before .before .before .before .before .before .before .write162 .kept .0
-    ∙ c .before .before .before .before .before .before .before .before .before .before .before .before .before .before .before .before .before .before .before .before .before .before .before .before .before .before .before .before .before .before .before .before .before .before .before .write32 .kept .0
-    ∙ c .before .before .before .before .before .before .before .before .before .before .before .before .before .before .before .before .before .before .before .before .before .before .before .before .before .before .before .before .before .before .before .before .before .before .before .before .before .before .before .before .write16 .kept .0
+same-length c = search needs
 
 returns-3 : tie.Need-returns-3
-returns-3 c =
-    Packings.packs-granted _ _ _ (sym (c .before .before .before .before .before .before .before .before .before .before .before .before .before .before .before .before .before .before .before .before .before .before .before .before .before .before .before .before .before .before .before .before .before .before .before .before .before .before .before .before .before .before .before .before .before .pack-fault .ensures) ∙ c .before .before .before .before .before .before .before .before .before .before .before .before .before .before .before .before .before .before .before .before .before .before .before .before .before .before .before .before .before .before .before .before .before .before .before .before .before .before .before .before .before .before .before .before .if1 .left) (omega (arith, long (c .before .before .before .before .before .before .before .before .before .before .before .before .before .before .before .before .before .before .before .before .before .before .before .before .before .before .before .before .before .before .before .before .before .before .before .before .before .before .before .before .before .before .before .before), c .before .before .before .before .before .before .before .before .before .before .before .before .before .before .before .before .before .before .before .before .before .before .before .before .before .before .before .before .before .before .before .before .before .before .before .before .before .before .before .before .before .before .before .if2 .left)) _ (sym (long (c .before .before .before .before .before .before .before .before .before .before .before .before .before .before .before .before .before .before .before .before .before .before .before .before .before .before .before .before .before .before .before .before .before .before .before .before .before .before .before .before .before .before .before .before))) _
-    (HeadPacks.laid-head _ _ _ _ _ _ _ (λ i. c .before .before .before .before .before .before .before .before .before .before .before .before .before .before .before .before .before .before .before .before .before .before .before .before .before .before .before .before .before .before .before .before .before .before .before .before .before .before .before .before .before .before .before .before .before .before .before .before .before .before .shared-slice-known3 .given i .fits) (λ i. c .before .before .before .before .before .before .before .before .before .before .before .before .before .before .before .before .before .before .before .before .before .before .before .before .before .before .before .before .before .before .before .before .before .before .before .before .before .before .before .before .before .before .before .before .before .before .before .before .before .shared-slice-known4 .given i .fits) (λ i. c .before .before .before .before .before .before .before .before .before .before .before .before .before .before .before .before .before .before .before .before .before .before .before .before .before .before .before .before .before .before .before .before .before .before .before .before .before .before .before .before .before .before .before .before .before .before .before .before .shared-slice-known5 .given i .fits) (sound (c .before .before .before .before .before .before .before .before .before .before .before .before .before .before .before .before .before .before .before .before .before .before .before .before .before .before .before .before .before .before .before .before .before .before .before .before .before .before .before .before .before .before .before .before) .sum) _ _ _ _ _ _ _ _ _ _ _
-    (c .before .before .before .before .before .before .before .before .before .before .before .before .before .before .before .before .before .before .before .before .before .before .before .before .before .before .before .before .before .before .before .before .before .before .before .before .before .before .before .before .write16 .ensures)
-    (c .before .before .before .before .before .before .before .before .before .before .before .before .before .before .before .before .before .before .before .before .before .before .before .before .before .before .before .before .before .before .before .before .before .before .before .write32 .ensures)
-    (c .before .before .before .before .before .before .before .before .before .before .before .before .before .before .before .before .before .before .before .before .before .before .before .before .before .before .before .before .before .before .write162 .ensures)
-    (c .before .before .before .before .before .before .before .before .before .before .before .before .before .before .before .before .before .before .before .before .before .before .before .before .before .before .write163 .ensures)
-    (c .before .before .before .before .before .before .before .before .before .before .before .before .before .before .before .before .before .before .before .before .before .before .lay-column .ensures)
-    (c .before .before .before .before .before .before .before .before .before .before .before .before .before .before .before .before .before .before .lay-column2 .ensures)
-    (c .before .before .before .before .before .before .before .before .before .before .before .before .before .before .lay-column3 .ensures)
-    (c .before .before .before .before .before .before .before .before .before .before .lay-column4 .ensures)
-    (c .before .before .before .before .before .before .lay-names .ensures)
-    (c .before .before .lay .ensures))
+returns-3 c = 
+    Packings.packs-granted _ _ _ (sym (c .before .before .before .before .before .before .before .before .before .before .before .before .before .before .before .before .before .before .pack-fault .ensures) ∙ c .before .before .before .before .before .before .before .before .before .before .before .before .before .before .before .before .before .if1 .left) (omega (arith, long (c .before .before .before .before .before .before .before .before .before .before .before .before .before .before .before .before .before), c .before .before .before .before .before .before .before .before .before .before .before .before .before .before .before .before .if2 .left)) _ (sym (long (c .before .before .before .before .before .before .before .before .before .before .before .before .before .before .before .before .before))) _
+    (HeadPacks.laid-head _ _ _ _ _ _ _ (λ i. c .before .before .before .before .before .before .before .before .before .before .before .before .before .before .before .before .before .before .before .before .before .before .before .shared-slice-known3 .given i .fits) (λ i. c .before .before .before .before .before .before .before .before .before .before .before .before .before .before .before .before .before .before .before .before .before .before .shared-slice-known4 .given i .fits) (λ i. c .before .before .before .before .before .before .before .before .before .before .before .before .before .before .before .before .before .before .before .before .before .shared-slice-known5 .given i .fits) (sound (c .before .before .before .before .before .before .before .before .before .before .before .before .before .before .before .before .before) .sum) _ _ _ _ _
+    (c .before .before .before .before .before .before .before .before .before .before .before .before .before .before .lay-start .ensures) (c .before .before .before .before .before .before .before .before .before .before .lay-columns .ensures) (c .before .before .before .before .before .before .lay-names .ensures) (c .before .before .lay .ensures))
 
 pub pack-spec : {M : Type 1} → statement M
 pack-spec =
@@ -169,23 +105,8 @@ pack-spec =
     add-length-3
     add-length-4
     returns-2
-    cast-write16
-    write16-requires
-    cast-write32
-    write32-requires
-    cast-write16-2
-    write16-requires-2
-    write16-requires-3
-    lay-column-requires
-    mul-lay-column
-    add-lay-column
-    lay-column-requires-2
-    mul-lay-column-2
-    add-lay-column-2
-    lay-column-requires-3
-    mul-lay-column-3
-    add-lay-column-3
-    lay-column-requires-4
+    lay-start-requires
+    lay-columns-requires
     mul-lay-names
     add-lay-names
     lay-names-requires
