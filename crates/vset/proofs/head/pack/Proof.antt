@@ -87,7 +87,7 @@ same-length : tie.Need-same-length
 same-length c = search needs
 
 returns-3 : tie.Need-returns-3
-returns-3 c = 
+returns-3 c =
     Packings.packs-granted _ _ _ (sym (c .before .before .before .before .before .before .before .before .before .before .before .before .before .before .before .before .before .before .pack-fault .ensures) ∙ c .before .before .before .before .before .before .before .before .before .before .before .before .before .before .before .before .before .if1 .left) (omega (arith, long (c .before .before .before .before .before .before .before .before .before .before .before .before .before .before .before .before .before), c .before .before .before .before .before .before .before .before .before .before .before .before .before .before .before .before .if2 .left)) _ (sym (long (c .before .before .before .before .before .before .before .before .before .before .before .before .before .before .before .before .before))) _
     (HeadPacks.laid-head _ _ _ _ _ _ _ (λ i. c .before .before .before .before .before .before .before .before .before .before .before .before .before .before .before .before .before .before .before .before .before .before .before .shared-slice-known3 .given i .fits) (λ i. c .before .before .before .before .before .before .before .before .before .before .before .before .before .before .before .before .before .before .before .before .before .before .shared-slice-known4 .given i .fits) (λ i. c .before .before .before .before .before .before .before .before .before .before .before .before .before .before .before .before .before .before .before .before .before .shared-slice-known5 .given i .fits) (sound (c .before .before .before .before .before .before .before .before .before .before .before .before .before .before .before .before .before) .sum) _ _ _ _ _
     (c .before .before .before .before .before .before .before .before .before .before .before .before .before .before .lay-start .ensures) (c .before .before .before .before .before .before .before .before .before .before .lay-columns .ensures) (c .before .before .before .before .before .before .lay-names .ensures) (c .before .before .lay .ensures))

@@ -29,7 +29,7 @@ same-length : tie.Need-same-length
 same-length c = search needs
 
 returns : tie.Need-returns
-returns c = 
+returns c =
     let a = c .before .before .before .before .before .before .before .before .before .before .before .before .before .before .before .args in
     Tailings.laid-tail _ (a .name .now) (a .class .now) _ (a .x) (λ i. c .before .before .before .before .before .before .before .before .before .before .before .before .before .shared-slice-known .given i .fits) (λ i. c .before .before .before .before .before .before .before .before .before .before .before .before .shared-slice-known2 .given i .fits) _ _ _
     (c .before .before .before .before .before .before .before .before .before .before .lay-text .ensures) (c .before .before .before .before .before .before .lay-text2 .ensures) (c .before .before .lay-ending .ensures)
