@@ -8,7 +8,7 @@ use lib.Dec.{T, ltb, eqb}
 use lib.Ieee.{binary32, binary64, nanBits}
 use lib.Ieee.Bits.{nanBits-is}
 use Rattle.directory.proofs.Tests.{test}
-use Rattle.vset.specs.Types.{Kind, signed, unsigned, float, kindOf, widthOf}
+use Rattle.vhead.specs.Types.{Kind, signed, unsigned, float, kindOf, widthOf}
 use Rattle.vdata.specs.Patterns.{signedBy, float32, float64, valueBy, valueAt}
 use Rattle.vdata.specs.Values.{valueIn}
 use Rattle.hdf4.specs.VsetAnswers.{HasBits}

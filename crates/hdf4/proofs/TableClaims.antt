@@ -5,9 +5,11 @@ use mathlib.Core.Path.{_≡_, refl, sym, ap, _∙_}
 use mathlib.Core.List.{List, [], _∷_}
 use Rattle.wire.specs.Numbers.{be}
 use Rattle.records.specs.Reading.{recordBytes}
-use Rattle.vset.specs.Limits.{head-tag}
-use Rattle.vset.specs.Heads.{headIn, headFields, headNames, nameRows, namesEnd, startOf}
-use Rattle.vset.proofs.Headings.{names-split, field-is, fieldsAfter, fields-are, row-next, row-none}
+use Rattle.vhead.specs.Limits.{head-tag}
+use Rattle.vset.specs.Tails.{namesEnd}
+use Rattle.vhead.specs.Heads.{headIn, headFields, headNames, nameRows, startOf}
+use Rattle.vset.proofs.Tailings.{names-split}
+use Rattle.vhead.proofs.Headings.{field-is, fieldsAfter, fields-are, row-next, row-none}
 use Rattle.hdf4.specs.FieldTable.{fieldsFrom, fieldsOf, numbersOf, namesOf}
 
 module _ (start : ℕ) (e : List ℕ) where

@@ -10,14 +10,14 @@ use Rattle.directory.specs.Limits.{most-bytes}
 use Rattle.directory.specs.Answer.{Answer}
 use Rattle.directory.specs.declared.Refusal.{Refusal}
 use Rattle.records.specs.Reading.{recordBytes}
-use Rattle.vset.specs.Limits.{head-tag}
-use Rattle.vset.specs.Heads.{headIn, startOf, headNumbers, headWithin, namedField}
-use Rattle.vset.specs.Steps.{HeadHeld, Held}
-use Rattle.vset.specs.declared.head.Head.{Head}
-use Rattle.vset.specs.declared.head.NamedField.{NamedField}
-use Rattle.vset.specs.declared.head.Answered.{Answered}
-use Rattle.vset.specs.declared.head.Answered.the-variants.{Values, Refused}
-use Rattle.vset.proofs.Placing.{head-names, name-inside}
+use Rattle.vhead.specs.Limits.{head-tag}
+use Rattle.vhead.specs.Heads.{headIn, startOf, headNumbers, headWithin, namedField}
+use Rattle.vhead.specs.Steps.{HeadHeld, Held}
+use Rattle.vhead.specs.declared.head.Head.{Head}
+use Rattle.vhead.specs.declared.head.NamedField.{NamedField}
+use Rattle.vhead.specs.declared.head.Answered.{Answered}
+use Rattle.vhead.specs.declared.head.Answered.the-variants.{Values, Refused}
+use Rattle.vhead.proofs.HeadPlaces.{head-names, name-inside}
 use Rattle.hdf4.specs.VsetAnswers.{vdataAnswer, NamesFit}
 use Rattle.hdf4.specs.FieldTable.{Lies, Reads, fieldFrom, fieldIn, fieldsFrom, fieldsOf, tableAfter, filled}
 use Rattle.hdf4.specs.declared.vset_calls.VdataAnswer.{VdataAnswer}

@@ -7,9 +7,9 @@ use Rattle.wire.specs.Numbers.{part}
 use Rattle.directory.specs.Limits.{most-bytes}
 use Rattle.directory.specs.Answer.{Answer}
 use Rattle.records.specs.Reading.{recordBytes}
-use Rattle.vset.specs.Limits.{head-tag, most-fields}
-use Rattle.vset.specs.Heads.{headIn, namedField, startOf, headWithin}
-use Rattle.vset.specs.declared.head.NamedField.{NamedField}
+use Rattle.vhead.specs.Limits.{head-tag, most-fields}
+use Rattle.vhead.specs.Heads.{headIn, namedField, startOf, headWithin}
+use Rattle.vhead.specs.declared.head.NamedField.{NamedField}
 use Rattle.hdf4.specs.VsetAnswers.{vdataAnswer}
 use Rattle.hdf4.specs.declared.field_table.Field.{Field}
 use Rattle.hdf4.specs.declared.field_table.Reading.{Reading}

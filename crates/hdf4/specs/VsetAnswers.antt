@@ -7,9 +7,9 @@ use lib.Ieee.{isNan}
 use Rattle.directory.specs.Answer.{Answer}
 use Rattle.directory.specs.Limits.{most-bytes}
 use Rattle.vset.specs.declared.tail.Ending.{Ending}
-use Rattle.vset.specs.declared.head.Start.{Start}
-use Rattle.vset.specs.declared.head.Answered.{Answered}
-use Rattle.vset.specs.declared.head.Answered.the-variants.{Values, Refused}
+use Rattle.vhead.specs.declared.head.Start.{Start}
+use Rattle.vhead.specs.declared.head.Answered.{Answered}
+use Rattle.vhead.specs.declared.head.Answered.the-variants.{Values, Refused}
 use Rattle.vdata.specs.declared.value.Value.{Value}
 use Rattle.vdata.specs.declared.value.Value.the-variants.{Signed, Unsigned, Float32, Float64, Nan32, Nan64}
 use Rattle.hdf4.specs.declared.vset_calls.GroupAnswer.{GroupAnswer}

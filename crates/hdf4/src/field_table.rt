@@ -1,12 +1,12 @@
 // The fields of a Vdata, one struct a field, in a lent table.
 use super::vset_calls::VdataAnswer;
 use super::vset_calls::vdata_answer;
-use vset::head;
-use vset::head::Answered;
+use vhead::head;
+use vhead::head::Answered;
 ghost use mathlib.Core.Path.{_≡_};
 ghost use Prim.Native.Nat.{_<_};
 ghost use lib.ListN.{length};
-ghost use Rattle.vset.specs.Heads.{headWithin};
+ghost use Rattle.vhead.specs.Heads.{headWithin};
 ghost use Rattle.hdf4.specs.VsetAnswers.{vdataAnswer};
 ghost use Rattle.hdf4.specs.FieldTable.{Lies, Reads, fieldIn, fieldsOf, tableAfter};
 

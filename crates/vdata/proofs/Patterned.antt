@@ -3,8 +3,8 @@ use Prim.Native.Nat.{ℕ}
 use mathlib.Core.Path.{_≡_}
 use mathlib.Core.List.{List}
 use Rattle.wire.specs.Numbers.{be}
-use Rattle.vset.specs.Types.{widthOf}
-use Rattle.vset.proofs.Codes.{kind-unsigned}
+use Rattle.vhead.specs.Types.{widthOf}
+use Rattle.vhead.proofs.Codes.{kind-unsigned}
 use Rattle.vdata.specs.Patterns.{valueBy, valueAt}
 use Rattle.vdata.specs.declared.value.Value.the-variants.{Unsigned}
 

@@ -15,20 +15,20 @@ use borrow.Author.Tests.{ltb-true, ltb-false, lt-ltb, leb-true, eqb-true}
 use Rattle.wire.specs.Numbers.{be, Bytes}
 use Rattle.wire.proofs.Numbers.{be-small}
 use Rattle.directory.proofs.Tests.{test, zero?}
-use Rattle.vset.specs.Types.{Kind, signed, unsigned, float, Row, types, rowOf, widthOf, kindOf}
+use Rattle.vhead.specs.Types.{Kind, signed, unsigned, float, Row, types, rowOf, widthOf, kindOf}
 use Rattle.vdata.specs.Patterns.{signedBy, float32, float64, valueBy, valueAt, complement, valueBits}
 use Rattle.vdata.specs.declared.value.Value.{Value}
 use Rattle.vdata.specs.declared.value.Value.the-variants.{Signed, Unsigned, Float32, Float64, Nan32, Nan64}
 use Rattle.directory.proofs.Search.{passed}
 use Rattle.directory.proofs.Tests.{and-split}
 use Rattle.records.specs.Reading.{recordBytes}
-use Rattle.vset.specs.Limits.{head-tag}
+use Rattle.vhead.specs.Limits.{head-tag}
 use Rattle.vdata.specs.Limits.{values-tag}
-use Rattle.vset.specs.Heads.{headIn, headFault, fieldsFault, fieldAt, fieldsFrom, sized}
+use Rattle.vhead.specs.Heads.{headIn, headFault, fieldsFault, fieldAt, fieldsFrom, sized}
 use Rattle.vdata.specs.Values.{placeOf, valueOf}
-use Rattle.vset.specs.declared.field.Numbers.{Numbers}
-use Rattle.vset.specs.declared.head.Head.{Head}
-use Rattle.vset.proofs.Codes.{row-is}
+use Rattle.vhead.specs.declared.field.Numbers.{Numbers}
+use Rattle.vhead.specs.declared.head.Head.{Head}
+use Rattle.vhead.proofs.Codes.{row-is}
 use Rattle.vdata.proofs.Valuing.{index-inside, place-records, place-fields, value-granted}
 
 -- ---- Bits

@@ -26,20 +26,20 @@ use Rattle.storage.proofs.Plain.{FoundPlain}
 use Rattle.records.specs.Limits.{RECORD}
 use Rattle.records.specs.Reading.{recordBytes}
 use Rattle.records.proofs.Readings.{found-plain, record-refused, record-broken, record-passes, record-granted}
-use Rattle.vset.specs.Limits.{head-tag}
+use Rattle.vhead.specs.Limits.{head-tag}
 use Rattle.vdata.specs.Limits.{values-tag, NO-VALUE}
-use Rattle.vset.specs.Types.{widthOf}
+use Rattle.vhead.specs.Types.{widthOf}
 use Rattle.vdata.specs.Patterns.{valueAt, valueKind, valueBits}
-use Rattle.vset.specs.Heads.{headIn, headFault, fieldAt}
-use Rattle.vset.specs.Steps.{Narrow}
+use Rattle.vhead.specs.Heads.{headIn, headFault, fieldAt}
+use Rattle.vhead.specs.Steps.{Narrow}
 use Rattle.vdata.specs.Values.{indexFault, placeOf, valuesFault, valueNumbers, valueIn, valueAfter, valueOf, Gives}
-use Rattle.vset.specs.declared.field.Numbers.{Numbers}
-use Rattle.vset.specs.declared.head.Head.{Head}
+use Rattle.vhead.specs.declared.field.Numbers.{Numbers}
+use Rattle.vhead.specs.declared.head.Head.{Head}
 use Rattle.vdata.specs.declared.value.Value.{Value}
 use Rattle.vdata.specs.declared.value.Answered.{Answered}
 use Rattle.vdata.specs.declared.value.Answered.the-variants as answered
-use Rattle.vset.proofs.Judging.{size-low}
-use Rattle.vset.proofs.Headings.{head-is}
+use Rattle.vhead.proofs.Judging.{size-low}
+use Rattle.vhead.proofs.Headings.{head-is}
 
 -- ---- The indices
 

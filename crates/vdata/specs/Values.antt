@@ -12,13 +12,13 @@ use Rattle.directory.specs.Lookup.{find}
 use Rattle.storage.specs.Elements.{judged, inPlain}
 use Rattle.records.specs.Limits.{RECORD}
 use Rattle.records.specs.Reading.{recordOf}
-use Rattle.vset.specs.Limits.{head-tag}
+use Rattle.vhead.specs.Limits.{head-tag}
 use Rattle.vdata.specs.Limits.{values-tag, NO-VALUE}
-use Rattle.vset.specs.Types.{widthOf}
+use Rattle.vhead.specs.Types.{widthOf}
 use Rattle.vdata.specs.Patterns.{valueAt, valueKind, valueBits}
-use Rattle.vset.specs.Heads.{headIn, headFault, fieldAt}
-use Rattle.vset.specs.declared.field.Numbers.{Numbers}
-use Rattle.vset.specs.declared.head.Head.{Head}
+use Rattle.vhead.specs.Heads.{headIn, headFault, fieldAt}
+use Rattle.vhead.specs.declared.field.Numbers.{Numbers}
+use Rattle.vhead.specs.declared.head.Head.{Head}
 use Rattle.vdata.specs.declared.value.Value.{Value}
 use Rattle.vdata.specs.declared.value.Answered.{Answered}
 use Rattle.vdata.specs.declared.value.Answered.the-variants as answered

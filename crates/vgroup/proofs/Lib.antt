@@ -1,3 +1,6 @@
+pub mod Groupings
+pub mod GroupClaims
+pub mod GroupPlaces
 pub mod Walking
 pub mod Nesting
 pub mod Pairing

@@ -9,9 +9,9 @@ use borrow.Author.Tests.{ne-eqb}
 use Rattle.directory.specs.Search.{Hit, hit, miss}
 use Rattle.directory.specs.Slots.{contentAt}
 use Rattle.directory.specs.Lookup.{find}
-use Rattle.vset.specs.Limits.{group-tag}
-use Rattle.vset.specs.Groups.{groupMembers}
-use Rattle.vset.proofs.Groupings.{groupIn, length-members}
+use Rattle.vgroup.specs.Limits.{group-tag}
+use Rattle.vgroup.specs.Groups.{groupMembers}
+use Rattle.vgroup.proofs.Groupings.{groupIn, length-members}
 use Rattle.vgroup.specs.Limits.{most-nested}
 use Rattle.vgroup.specs.Listings.{Listing, stopped, pair, membersFrom, listFrom, placesIn, pairsFound, pairsOf}
 use Rattle.vgroup.proofs.Walking.{listed-few}

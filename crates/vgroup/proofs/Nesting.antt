@@ -22,8 +22,8 @@ use Rattle.storage.specs.declared.view.Located.the-variants.{Plain, Refused}
 use Rattle.storage.proofs.Elements.{locate-plain, locate-fault, judged-passes, judged-stops}
 use Rattle.storage.proofs.Plain.{FoundPlain, located-found}
 use Rattle.records.specs.Reading.{recordOf}
-use Rattle.vset.specs.Limits.{group-tag}
-use Rattle.vset.specs.Groups.{groupFault}
+use Rattle.vgroup.specs.Limits.{group-tag}
+use Rattle.vgroup.specs.Groups.{groupFault}
 use Rattle.vgroup.specs.Listings.{Listing, stopped, groupFound}
 use Rattle.vgroup.specs.Steps.{groupAt, Walks}
 

@@ -22,7 +22,7 @@ use Rattle.storage.proofs.Copies.{judged-only}
 use Rattle.storage.proofs.Plain.{FoundPlain}
 use Rattle.records.specs.Reading.{recordOf}
 use Rattle.records.proofs.Packings.{laid-kept, laid-list}
-use Rattle.vset.specs.Limits.{group-tag}
+use Rattle.vgroup.specs.Limits.{group-tag}
 use Rattle.vgroup.specs.Limits.{most-nested, most-pairs}
 use Rattle.vgroup.specs.Listings.{Listing, listFrom, placesIn, listingOf, pairsFound, pairsOf}
 use Rattle.vgroup.specs.Steps.{groupAt, Walks}

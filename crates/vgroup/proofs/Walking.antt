@@ -19,14 +19,14 @@ use Rattle.directory.specs.Lookup.{find}
 use Rattle.directory.proofs.Tests.{zero?, test}
 use Rattle.storage.specs.Elements.{plainFault}
 use Rattle.records.specs.Layout.{read, numbersAt}
-use Rattle.vset.specs.Limits.{group-tag}
+use Rattle.vgroup.specs.Limits.{group-tag}
 use Rattle.vgroup.specs.Limits.{DEEP}
 use Rattle.vset.specs.Columns.{rows2}
-use Rattle.vset.specs.Groups.{group, groupFault, groupMembers}
+use Rattle.vgroup.specs.Groups.{group, groupFault, groupMembers}
 use Rattle.vgroup.specs.Listings.{Listing, stopped, pair, andThen, membersFrom, groupFound, listFrom}
 use Rattle.vgroup.specs.Steps.{Walks}
 use Rattle.vgroup.specs.declared.listing.Walked.{Walked}
-use Rattle.vset.proofs.Groupings.{groupIn, membersAfter, members-next, members-none, members-all}
+use Rattle.vgroup.proofs.Groupings.{groupIn, membersAfter, members-next, members-none, members-all}
 
 -- ---- The groups nested in one
 

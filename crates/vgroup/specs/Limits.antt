@@ -1,5 +1,9 @@
--- Numbers that document 01 fixes for a listing of groups, each named once: limits, and a refusal number of its table. Assumes nothing.
+-- Numbers that document 01 fixes for Vgroups and their listing, each named once: their tag, limits, and a refusal number of its table.
+-- Assumes nothing.
 use Prim.Native.Nat.{ℕ}
+
+abbrev pub group-tag : ℕ
+group-tag = 1965
 
 -- how many groups may be nested in a named one, which is the first of 16
 abbrev pub most-nested : ℕ

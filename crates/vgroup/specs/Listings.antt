@@ -11,9 +11,9 @@ use Rattle.directory.specs.Slots.{contentAt}
 use Rattle.directory.specs.Lookup.{find}
 use Rattle.storage.specs.Elements.{plainFault, judged}
 use Rattle.records.specs.Reading.{recordOf, recordBytes}
-use Rattle.vset.specs.Limits.{group-tag}
+use Rattle.vgroup.specs.Limits.{group-tag}
 use Rattle.vgroup.specs.Limits.{most-nested, most-pairs, DEEP}
-use Rattle.vset.specs.Groups.{groupFault, groupMembers}
+use Rattle.vgroup.specs.Groups.{groupFault, groupMembers}
 use Rattle.vgroup.specs.declared.listing.Listed.{Listed}
 use Rattle.vgroup.specs.declared.listing.Listed.the-variants.{Pairs, Refused}
 

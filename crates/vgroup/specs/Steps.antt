@@ -10,7 +10,7 @@ use Rattle.directory.specs.Slots.{sizeAt, contentAt}
 use Rattle.storage.specs.Elements.{startAt, plainFault}
 use Rattle.storage.specs.declared.view.Located.{Located}
 use Rattle.storage.specs.declared.view.Located.the-variants as located
-use Rattle.vset.specs.Groups.{groupFault}
+use Rattle.vgroup.specs.Groups.{groupFault}
 use Rattle.vgroup.specs.Listings.{Listing}
 use Rattle.vgroup.specs.declared.listing.Walked.{Walked}
 

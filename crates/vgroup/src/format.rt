@@ -1,4 +1,7 @@
-// Limits of a listing. How many groups may be nested in a named one.
+// Numbers that the file format and the listing fix for Vgroups.
+pub const GROUP_TAG: u16 = 1965;
+
+// How many groups may be nested in a named one.
 pub const MOST_NESTED: usize = 15;
 
 pub const MOST_PAIRS: usize = 4096;

@@ -1,13 +1,13 @@
 // Listing the members of a group, each group among them followed by its own members.
+use super::format::GROUP_TAG;
 use super::format::MOST_NESTED;
 use super::format::MOST_PAIRS;
+use super::group;
 use super::refusals::DEEP;
 use directory::Opened;
 use directory::Refusal;
 use directory::refusals::SMALL;
 use storage::view::Located;
-use vset::format::GROUP_TAG;
-use vset::group;
 ghost use mathlib.Core.Path.{_≡_};
 ghost use mathlib.Core.List.{[], _∷_};
 ghost use Prim.Native.Nat.{_+_, _*_, _≤_, _<_};
@@ -17,8 +17,8 @@ ghost use Rattle.directory.specs.Slots.{contentAt};
 ghost use Rattle.wire.specs.Numbers.{put};
 ghost use Rattle.storage.specs.Copy.{laidOver};
 ghost use Rattle.storage.specs.Steps.{Opens};
-ghost use Rattle.vset.specs.Limits as Limits;
-ghost use Rattle.vset.specs.Groups as Groups;
+ghost use Rattle.vgroup.specs.Limits as Limits;
+ghost use Rattle.vgroup.specs.Groups as Groups;
 ghost use Rattle.vgroup.specs.Listings as Listings;
 ghost use Rattle.vgroup.specs.Steps as Steps;
 

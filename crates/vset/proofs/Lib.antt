@@ -1,11 +1,3 @@
 pub mod Rows
 pub mod Tailings
-pub mod Groupings
-pub mod GroupClaims
-pub mod Codes
-pub mod Judging
-pub mod Headings
-pub mod HeadReads
-pub mod HeadPacks
-pub mod HeadClaims
 pub mod Placing

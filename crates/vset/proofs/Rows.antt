@@ -1,6 +1,6 @@
 -- Laws of rows and columns: a column of rows, rows of columns, and one step of a loop over them. Assumes nothing.
 use Prim.Native.Nat.{ℕ, zero, suc, _+_, _*_, _-_, _<_, _≤_}
-use native.Mathlib.Nat.{add-zero, mul-zero, mul-suc, mul-le-mul-left}
+use native.Mathlib.Nat.{add-zero, mul-zero, mul-suc, mul-le-mul}
 use native.Mathlib.Omega.{arith}
 use native.Mathlib.Numerals.{add-one, add-two, add-three, add-four}
 use mathlib.Core.Path.{_≡_, refl, sym, ap, _∙_}
@@ -36,12 +36,6 @@ every-next first step count xs i h =
     let a : first + step * (i + 1) ≡ first + step * i + step = rw (add-one, mul-suc) (omega arith) in
     rw (n, a)
 
--- an entry of a column stands among the rows
-pub every-inside : (first step count i n : ℕ) → first < step → i < count → step * count ≤ n → first + step * i < n
-every-inside first step count i n f h l =
-    let m : step * suc i ≤ step * count = mul-le-mul-left step h in
-    omega (arith, mul-suc step i)
-
 -- every entry of a column is one of the rows'
 pub every-small : (first step count : ℕ) (xs : List ℕ) (bound : ℕ) → 0 < bound → ((i : ℕ) → getD xs i 0 < bound) → (i : ℕ) → getD (every first step count xs) i 0 < bound
 unfolding every
@@ -50,6 +44,13 @@ every-small first step (suc count) xs bound p h zero = h first
 every-small first step (suc count) xs bound p h (suc i) = every-small (first + step) step count xs bound p h i
 
 -- ---- A column laid, number by number
+
+-- numbers of 16 bits multiply to 32
+pub product-low : (a b : ℕ) → a < 65536 → b < 65536 → a * b ≤ 4294967296
+product-low a b h k =
+    let x : a ≤ 65536 = omega arith in
+    let y : b ≤ 65536 = omega arith in
+    mul-le-mul x y
 
 -- so many numbers are laid: those that are left, laid on what is there, give the whole
 pub record Laying (out₀ : List ℕ) (at : ℕ) (table : List ℕ) (first step count : ℕ) (out : List ℕ) (i : ℕ) : Type 0 where

@@ -1,5 +1,5 @@
 -- Laws of the fields that a Vgroup and a Vdata head end in: what is read, what is packed, and where a tail does not fit. Assumes nothing.
-use Prim.Native.Nat.{ℕ, suc, _+_, _*_, _%_, _<_, _≤_}
+use Prim.Native.Nat.{ℕ, zero, suc, _+_, _*_, _-_, _%_, _<_, _≤_}
 use native.Mathlib.Nat.{one-mul}
 use native.Mathlib.Omega.{arith}
 use mathlib.Core.Path.{_≡_, refl, sym, ap, _∙_}
@@ -10,7 +10,7 @@ use lib.Seq.{take-append-seam, drop-append-seam}
 use lib.Dec.{leb, eqb}
 use borrow.Author.Tests.{leb-true, leb-false, le-leb, lt-leb, eqb-true, eq-eqb, ne-eqb}
 use Rattle.wire.specs.Numbers.{be, bytes, put, part, Bytes, Reads}
-use Rattle.wire.proofs.Numbers.{length-bytes, put-put}
+use Rattle.wire.proofs.Numbers.{length-bytes, put-put, put-past}
 use Rattle.directory.proofs.Tests.{test, same?}
 use Rattle.directory.proofs.Search.{must-holds, must-fails, passed}
 use Rattle.storage.proofs.Elements.{length-part}
@@ -18,10 +18,35 @@ use Rattle.records.specs.Limits.{most-count, RECORD}
 use Rattle.records.specs.Layout.{read, extent, numbers, pack, given, bytesEach, Fits}
 use Rattle.records.proofs.Layouts.{numbersAt-part}
 use Rattle.vset.specs.Limits.{only-version}
-use Rattle.vset.specs.Tails.{tail, tailNumbers, tailPackFault}
+use Rattle.vset.specs.Tails.{tail, tailNumbers, tailPackFault, namesEnd}
 use Rattle.vset.specs.Steps.{textBytes, endingBytes}
 use Rattle.vset.specs.declared.tail.Tail.{Tail}
 use Rattle.vset.specs.declared.tail.Ending.{Ending}
+
+-- ---- Names
+
+-- names end after they start, with at least two bytes for each
+pub names-low : (n : ℕ) (e : List ℕ) (at : ℕ) → at + 2 * n ≤ namesEnd e n at
+unfolding namesEnd
+names-low zero e at = omega arith
+names-low (suc n) e at = omega (arith, names-low n e (at + 2 + be 2 e at))
+
+-- a name more
+pub names-next : (e : List ℕ) (n i end : ℕ) → i < n → namesEnd e (n - i) end ≡ namesEnd e (n - (i + 1)) (end + 2 + be 2 e end)
+unfolding namesEnd
+names-next e n i end h = let m : n - i ≡ suc (n - (i + 1)) = omega arith in rw m
+
+pub names-done : (e : List ℕ) (n i end : ℕ) → n ≤ i → end ≡ namesEnd e (n - i) end
+unfolding namesEnd
+names-done e n i end h = let m : n - i ≡ 0 = omega arith in rw m
+
+-- names one after the other
+pub names-split : (i n : ℕ) (e : List ℕ) (at : ℕ) → namesEnd e (i + n) at ≡ namesEnd e n (namesEnd e i at)
+unfolding namesEnd
+names-split zero n e at = let z : 0 + n ≡ n = omega arith in ap (λ k. namesEnd e k at) z
+names-split (suc i) n e at =
+    let z : suc i + n ≡ suc (i + n) = omega arith in
+    ap (λ k. namesEnd e k at) z ∙ names-split i n e (at + 2 + be 2 e at)
 
 -- ---- A tail in bytes
 
@@ -204,6 +229,18 @@ laid-tail out name class at x n k a b c ea eb ec =
     (put-after _ _ _ _ _ (omega (arith, length-text class))
     ∙ put-after _ _ _ _ _ (omega (arith, length-text name))
     ∙ ap (put out at) (simp append-assoc))
+
+-- a buffer that ends before the class, and one that ends before the last numbers
+module _ (out name class : List ℕ) (at : ℕ) (x : Ending) (n : Bytes name) (k : Bytes class) (a : List ℕ) (ea : a ≡ put out at (textBytes name)) where
+  pub laid-name : length a ≤ at + 2 + length name → a ≡ put out at (pack (tail (λ t. t)) (tailNumbers name class x) at)
+  laid-name h =
+      laid-tail out name class at x n k a a a ea (sym (put-past a (at + 2 + length name) (textBytes class) h))
+      (sym (put-past a (at + 2 + length name + 2 + length class) (endingBytes x) (omega arith)))
+
+  pub laid-class : (b : List ℕ) → b ≡ put a (at + 2 + length name) (textBytes class) → length b ≤ at + 2 + length name + 2 + length class
+      → b ≡ put out at (pack (tail (λ t. t)) (tailNumbers name class x) at)
+  laid-class b eb h =
+      laid-tail out name class at x n k a b b ea eb (sym (put-past b (at + 2 + length name + 2 + length class) (endingBytes x) h))
 
 -- ---- Rules
 

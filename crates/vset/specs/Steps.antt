@@ -1,51 +1,9 @@
--- What the functions behind the calls take and leave. Assumes nothing.
-use Prim.Native.Nat.{ℕ, _+_, _*_, _<_, _≤_}
-use mathlib.Core.Path.{_≡_}
-use mathlib.Core.List.{List, [], _∷_, _++_}
-use mathlib.Core.Bool.{Bool, _&&_}
-use lib.ListN.{length, take, drop}
-use lib.Dec.{leb, eqb}
-use Rattle.wire.specs.Numbers.{bytes, part}
-use Rattle.directory.specs.Limits.{most-bytes}
-use Rattle.directory.specs.Search.{must}
-use Rattle.records.specs.Limits.{RECORD}
-use Rattle.records.specs.Layout.{bytesEach}
-use Rattle.records.specs.Reading.{recordBytes}
-use Rattle.vset.specs.Limits.{head-tag, most-fields, TYPE}
-use Rattle.vset.specs.Columns.{every}
-use Rattle.vset.specs.Types.{widthOf}
-use Rattle.vset.specs.Heads.{headIn, startOf}
+-- What the functions behind the calls leave of a tail. Assumes nothing.
+use mathlib.Core.List.{List, _++_}
+use Prim.Native.Nat.{ℕ}
+use lib.ListN.{length}
+use Rattle.wire.specs.Numbers.{bytes}
 use Rattle.vset.specs.declared.tail.Ending.{Ending}
-use Rattle.vset.specs.declared.field.Numbers.{Numbers}
-use Rattle.vset.specs.declared.head.Start.{Start}
-use Rattle.vset.specs.declared.head.Judged.{Judged}
-use Rattle.vset.specs.declared.head.Head.{Head}
-use Rattle.vset.specs.declared.head.Answered.{Answered}
-use Rattle.vset.specs.declared.head.Answered.the-variants.{Values, Refused}
-
--- the numbers of a field have 16 bits
-pub record Narrow (f : Numbers) : Type 0 where
-  pub code : f .code < 65536
-  pub size : f .size < 65536
-  pub offset : f .offset < 65536
-  pub order : f .order < 65536
-
--- one field more is judged
-abbrev pub judge : Judged → Numbers → Judged
-judge j f =
-    record {
-      orders = j .orders && leb 1 (f .order);
-      types = j .types && leb 1 (widthOf (f .code));
-      sizes = j .sizes && (eqb (f .size) (f .order * widthOf (f .code)) && eqb (f .offset) (j .sum));
-      sum = j .sum + f .size;
-    }
-
-unfoldable pub judgeAll : Judged → List Numbers → Judged
-judgeAll j [] = j
-judgeAll j (f ∷ fs) = judgeAll (judge j f) fs
-
-unfoldable pub verdict : Judged → ℕ → ℕ
-verdict j record-size = must (j .orders) RECORD (must (j .types) TYPE (must (j .sizes && eqb record-size (j .sum)) RECORD 0))
 
 -- a text with its length before it
 abbrev pub textBytes : List ℕ → List ℕ
@@ -54,35 +12,3 @@ textBytes text = bytes 2 (length text) ++ text
 -- the numbers after name and class
 abbrev pub endingBytes : Ending → List ℕ
 endingBytes x = bytes 2 (x .«extension_tag») ++ (bytes 2 (x .«extension_ref») ++ (bytes 2 (x .version) ++ bytes 2 (x .more)))
-
--- the numbers that a head with so many fields starts with
-abbrev pub startBytes : Start → ℕ → List ℕ
-startBytes b n = bytes 2 (b .interlace) ++ (bytes 4 (b .records) ++ (bytes 2 (b .«record_size») ++ bytes 2 n))
-
--- a column of so many rows
-abbrev pub columnBytes : List ℕ → ℕ → ℕ → List ℕ
-columnBytes rows n first = bytesEach 2 (every first 4 n rows)
-
--- their types, sizes, offsets and orders
-abbrev pub columnsBytes : List ℕ → ℕ → List ℕ
-columnsBytes rows n = columnBytes rows n 0 ++ (columnBytes rows n 1 ++ (columnBytes rows n 2 ++ columnBytes rows n 3))
-
--- the names, each with its length before it
-unfoldable pub namesBytes : List ℕ → List ℕ → List ℕ
-namesBytes [] all = []
-namesBytes (n ∷ ns) all = bytes 2 n ++ (take n all ++ namesBytes ns (drop n all))
-
--- a head that was found: its record's place and bytes, which break no rule, and room for its fields
-pub record HeadHeld (s : List ℕ) (ref room start size : ℕ) (h : Head) : Type 0 where
-  pub short : length s ≤ most-bytes
-  pub inside : start + size ≤ length s
-  pub starts : startOf s ref ≡ start
-  pub bytes-are : recordBytes s head-tag ref ≡ part s start size
-  pub parsed : h ≡ headIn (part s start size)
-  pub last : h .tail .end ≤ size
-  pub few : h .fields ≤ most-fields
-  pub fits : h .fields ≤ room
-
-abbrev pub Held : List ℕ → ℕ → ℕ → Answered → Type 0
-Held s ref room (Values start size h) = HeadHeld s ref room start size h
-Held s ref room (Refused r) = r .number ≡ 0 → ⊥

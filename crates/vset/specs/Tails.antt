@@ -1,8 +1,9 @@
 -- The fields that a Vgroup and a Vdata head end in, after document 01, "Records". Assumes nothing.
-use Prim.Native.Nat.{ℕ, _+_}
+use Prim.Native.Nat.{ℕ, zero, suc, _+_}
 use mathlib.Core.List.{List, [], _∷_, _++_}
 use lib.ListN.{length}
 use lib.Dec.{leb, eqb}
+use Rattle.wire.specs.Numbers.{be}
 use Rattle.directory.specs.Search.{must}
 use Rattle.records.specs.Limits.{most-count, RECORD}
 use Rattle.records.specs.Layout.{Layout, end, number, run}
@@ -13,6 +14,11 @@ use Rattle.vset.specs.declared.tail.Ending.{Ending}
 -- a length and as many bytes, told where they start and how many they are
 abbrev pub text : {A : Type 0} → (ℕ → ℕ → Layout A) → Layout A
 text then = number 2 (λ length. run 1 length (λ at. then at length))
+
+-- where so many names end, each with its length before it
+unfoldable pub namesEnd : List ℕ → ℕ → ℕ → ℕ
+namesEnd e zero at = at
+namesEnd e (suc n) at = namesEnd e n (at + 2 + be 2 e at)
 
 -- name length, name, class length, class, extension tag, extension reference, version, more; 16 bits each
 abbrev pub tail : {A : Type 0} → (Tail → A) → Layout A

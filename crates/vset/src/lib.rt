@@ -1,7 +1,4 @@
-// Vgroups and heads of Vdatas: their records read and packed.
-pub mod field;
+// What Vgroups and heads of Vdatas share: the fields that they end in, and columns of numbers.
+pub mod column;
 pub mod format;
-pub mod group;
-pub mod head;
-pub mod refusals;
 pub mod tail;

@@ -3,7 +3,7 @@ use super::format::VERSION;
 use records::format::MOST_COUNT;
 use records::refusals::RECORD;
 ghost use mathlib.Core.Path.{_≡_};
-ghost use Prim.Native.Nat.{_+_, _≤_};
+ghost use Prim.Native.Nat.{_≤_, _<_};
 ghost use lib.ListN.{length};
 ghost use Rattle.wire.specs.Numbers.{put};
 ghost use Rattle.records.specs.Layout as Layout;
@@ -31,11 +31,24 @@ pub struct Ending {
     pub more: u16,
 }
 
-// Reads the tail that starts at a place of a record.
-pub(crate) fn parse(part: &[u8], at: usize) -> Tail
-    requires { ⌜ at ≤ 8589934592 ⌝ }
-    ensures { λ r. ⌜ r ≡ Layout.read (Tails.tail (λ t. t)) (now (part .entry)) at ⌝ }
+// Where so many names, from a place of a record on, end: each has its length before it.
+pub fn skip_names(part: &[u8], at: u32, count: u16) -> usize
+    ensures { λ r. ⌜ (r ≡ Tails.namesEnd (now (part .entry)) count at) × (r ≤ 8589934592) ⌝ }
 {
+    let mut end = at as usize;
+    let mut i = 0;
+    while i < count as usize {
+        end += 2 + wire::read16(part, end);
+        i += 1;
+    }
+    end
+}
+
+// Reads the tail that stands after so many names, which start at a place of a record.
+pub fn parse(part: &[u8], names: u32, count: u16) -> Tail
+    ensures { λ r. ⌜ r ≡ Layout.read (Tails.tail (λ t. t)) (now (part .entry)) (Tails.namesEnd (now (part .entry)) count names) ⌝ }
+{
+    let at = skip_names(part, names, count);
     let name_length = wire::read16(part, at);
     let name = at + 2;
     let class_length = wire::read16(part, name + name_length);
@@ -55,7 +68,7 @@ pub(crate) fn parse(part: &[u8], at: usize) -> Tail
 }
 
 // The number of the rule that a name and a class of so many bytes and a version break, 0 where they break none.
-pub(crate) fn pack_fault(name: usize, class: usize, version: usize) -> usize
+pub fn pack_fault(name: usize, class: usize, version: usize) -> usize
     ensures { λ r. ⌜ r ≡ Tails.tailPackFault name class version 0 ⌝ }
 {
     if MOST_COUNT < name {
@@ -72,7 +85,7 @@ pub(crate) fn pack_fault(name: usize, class: usize, version: usize) -> usize
 
 // Lays a text with its length before it, from a place of a buffer on.
 fn lay_text(out: &mut [u8], at: usize, text: &[u8])
-    requires { ⌜ at + (2 + length (now text)) ≤ length (now out) ⌝ }
+    requires { ⌜ at < length (now out) ⌝ }
     ensures { λ _. ⌜ now (out .exit) ≡ put (now (out .entry)) at (Steps.textBytes (now (text .entry))) ⌝ }
 {
     wire::write16(out, at, text.len());
@@ -81,7 +94,7 @@ fn lay_text(out: &mut [u8], at: usize, text: &[u8])
 
 // Lays the numbers after name and class, from a place of a buffer on.
 fn lay_ending(out: &mut [u8], at: usize, x: Ending)
-    requires { ⌜ at + 8 ≤ length (now out) ⌝ }
+    requires { ⌜ at < length (now out) ⌝ }
     ensures { λ _. ⌜ now (out .exit) ≡ put (now (out .entry)) at (Steps.endingBytes x) ⌝ }
 {
     wire::write16(out, at, x.extension_tag as usize);
@@ -90,13 +103,22 @@ fn lay_ending(out: &mut [u8], at: usize, x: Ending)
     wire::write16(out, at + 6, x.more as usize);
 }
 
-// Lays a tail from a place of a buffer on.
-pub(crate) fn lay(out: &mut [u8], at: usize, name: &[u8], class: &[u8], x: Ending)
-    requires { ⌜ at + (12 + length (now name) + length (now class)) ≤ length (now out) ⌝ }
+// Lays a tail from a place of a buffer on. What would fall past its end is dropped.
+pub fn lay(out: &mut [u8], at: usize, name: &[u8], class: &[u8], x: Ending)
     ensures { λ _. ⌜ now (out .exit) ≡ put (now (out .entry)) at (Layout.pack (Tails.tail (λ t. t)) (Tails.tailNumbers (now (name .entry)) (now (class .entry)) x) at) ⌝ }
 {
+    if out.len() <= at {
+        return;
+    }
     lay_text(out, at, name);
     let second = at + 2 + name.len();
+    if out.len() <= second {
+        return;
+    }
     lay_text(out, second, class);
-    lay_ending(out, second + 2 + class.len(), x);
+    let last = second + 2 + class.len();
+    if out.len() <= last {
+        return;
+    }
+    lay_ending(out, last, x);
 }

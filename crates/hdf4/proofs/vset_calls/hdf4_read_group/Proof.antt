@@ -1,8 +1,8 @@
 -- `hdf4::vset_calls::hdf4_read_group` meets its contract. Assumes nothing.
 use native.Mathlib.Omega.{arith}
 use mathlib.Core.Path.{sym, ap, _∙_}
-use Rattle.vset.specs.Groups.{groupNumbers}
-use Rattle.vset.proofs.Placing
+use Rattle.vgroup.specs.Groups.{groupNumbers}
+use Rattle.vgroup.proofs.GroupPlaces
 use borrow.Author.Needs.{needs}
 use Rattle.hdf4.proofs.vset_calls.hdf4_read_group.Statement.{statement}
 use Rattle.hdf4.proofs.vset_calls.hdf4_read_group.Tie as tie
@@ -14,10 +14,10 @@ enum-known-answered : tie.Need-enum-known-answered
 enum-known-answered c = search needs
 
 add-t12 : tie.Need-add-t12
-add-t12 c = omega (arith, Placing.group-names _ _ _ _ (c .before .before .answered .given .0 .1 .0) (sym (c .before .before .before .before .before .before .read .ensures .0) ∙ ap groupNumbers (c .before .before .answered .given .1)) .0)
+add-t12 c = omega (arith, GroupPlaces.group-names _ _ _ _ (c .before .before .answered .given .0 .1 .0) (sym (c .before .before .before .before .before .before .read .ensures .0) ∙ ap groupNumbers (c .before .before .answered .given .1)) .0)
 
 add-t15 : tie.Need-add-t15
-add-t15 c = omega (arith, Placing.group-names _ _ _ _ (c .before .before .before .answered .given .0 .1 .0) (sym (c .before .before .before .before .before .before .before .read .ensures .0) ∙ ap groupNumbers (c .before .before .before .answered .given .1)) .1)
+add-t15 c = omega (arith, GroupPlaces.group-names _ _ _ _ (c .before .before .before .answered .given .0 .1 .0) (sym (c .before .before .before .before .before .before .before .read .ensures .0) ∙ ap groupNumbers (c .before .before .before .answered .given .1)) .1)
 
 enum-known-answered-2 : tie.Need-enum-known-answered-2
 enum-known-answered-2 c = search needs

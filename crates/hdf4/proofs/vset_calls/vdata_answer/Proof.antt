@@ -2,7 +2,7 @@
 use native.Mathlib.Omega.{arith}
 use mathlib.Core.Path.{sym, ap}
 use borrow.Author.Needs.{needs}
-use Rattle.vset.specs.Heads.{headNumbers}
+use Rattle.vhead.specs.Heads.{headNumbers}
 use Rattle.hdf4.proofs.Tables
 use Rattle.hdf4.proofs.vset_calls.vdata_answer.Statement.{statement}
 use Rattle.hdf4.proofs.vset_calls.vdata_answer.Tie as tie

@@ -2,7 +2,7 @@
 use native.Mathlib.Omega.{arith}
 use mathlib.Core.Path.{sym, ap}
 use borrow.Author.Needs.{needs}
-use Rattle.vset.proofs.Headings
+use Rattle.vhead.proofs.Headings
 use Rattle.vdata.proofs.Valuing
 use Rattle.vdata.proofs.value.index_fault.Statement.{statement}
 use Rattle.vdata.proofs.value.index_fault.Tie as tie

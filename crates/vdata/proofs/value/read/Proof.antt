@@ -5,7 +5,7 @@ use Rattle.directory.proofs.Rules
 use Rattle.storage.proofs.Elements
 use Rattle.storage.proofs.Found
 use Rattle.storage.proofs.Plain
-use Rattle.vset.specs.Heads.{headFault}
+use Rattle.vhead.specs.Heads.{headFault}
 use Rattle.vdata.specs.Values.{Gives, valueAfter, valueIn}
 use Rattle.vdata.proofs.Valuing
 use borrow.Author.Needs.{needs}

@@ -5,9 +5,9 @@ use Rattle.storage.proofs.Elements
 use Rattle.storage.proofs.Found
 use Rattle.storage.proofs.Plain
 use Rattle.wire.proofs.Numbers.{be-small}
-use Rattle.vset.specs.Heads.{headIn}
+use Rattle.vhead.specs.Heads.{headIn}
 use Rattle.vdata.specs.Values.{placeOf, valueIn}
-use Rattle.vset.proofs.Headings
+use Rattle.vhead.proofs.Headings
 use Rattle.vdata.proofs.Valuing
 use borrow.Author.Needs.{needs}
 use Rattle.vdata.proofs.value.read_in.Statement.{statement}

@@ -1,11 +1,11 @@
 -- `vdata::value::value_at` meets its contract. Assumes nothing.
 use borrow.Author.Needs.{needs}
 use mathlib.Core.Path.{_≡_, sym, ap, _∙_}
-use Rattle.vset.specs.Types.{rowOf, widthOf, kindOf}
+use Rattle.vhead.specs.Types.{rowOf, widthOf, kindOf}
 use Rattle.vdata.specs.Patterns.{signedBy, float32, float64, valueBy, valueAt}
 use Rattle.vdata.specs.declared.value.Value.the-variants.{Unsigned}
 use Rattle.wire.specs.Numbers.{be}
-use Rattle.vset.proofs.Codes
+use Rattle.vhead.proofs.Codes
 use Rattle.vdata.proofs.Patterned
 use Rattle.vdata.proofs.value.value_at.Statement.{statement}
 use Rattle.vdata.proofs.value.value_at.Tie as tie

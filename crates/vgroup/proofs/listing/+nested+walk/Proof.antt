@@ -7,7 +7,7 @@ use mathlib.Core.Logic.{⊎-elim}
 use borrow.Author.Needs.{needs}
 use Rattle.wire.specs.Numbers.{be}
 use Rattle.storage.proofs.Elements
-use Rattle.vset.specs.Groups.{groupFault}
+use Rattle.vgroup.specs.Groups.{groupFault}
 use Rattle.vgroup.proofs.Walking
 use Rattle.vgroup.proofs.Nesting
 use borrow.Fn.Kinds.{In}

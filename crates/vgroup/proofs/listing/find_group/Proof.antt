@@ -4,7 +4,7 @@ use mathlib.Core.Path.{sym, ap, _∙_}
 use Rattle.storage.proofs.Elements
 use Rattle.storage.proofs.Found
 use Rattle.storage.proofs.Plain
-use Rattle.vset.specs.Groups.{groupFault}
+use Rattle.vgroup.specs.Groups.{groupFault}
 use Rattle.vgroup.proofs.Nesting
 use borrow.Author.Needs.{needs}
 use Rattle.vgroup.proofs.listing.find_group.Statement.{statement}

@@ -5,7 +5,7 @@ use Rattle.directory.proofs.Rules
 use Rattle.storage.proofs.Elements
 use Rattle.storage.proofs.Found
 use Rattle.storage.specs.Steps.{Opens}
-use Rattle.vset.specs.Groups.{groupFault}
+use Rattle.vgroup.specs.Groups.{groupFault}
 use Rattle.vgroup.proofs.Nesting
 use Rattle.vgroup.proofs.Pairing
 use borrow.Author.Needs.{needs}

@@ -1,8 +1,14 @@
 -- `vset::tail::parse` meets its contract. Assumes nothing.
-use Rattle.vset.proofs.Tailings
+use mathlib.Core.Path.{ap, _∙_}
+use Rattle.records.specs.Layout.{read}
+use Rattle.vset.specs.Tails.{tail}
 use borrow.Author.Needs.{needs}
+use Rattle.vset.proofs.Tailings
 use Rattle.vset.proofs.tail.parse.Statement.{statement}
 use Rattle.vset.proofs.tail.parse.Tie as tie
+
+skip-names-requires : tie.Need-skip-names-requires
+skip-names-requires c κs = search needs
 
 read16-requires : tie.Need-read16-requires
 read16-requires c κs = search needs
@@ -46,17 +52,19 @@ add-read16-4 c = search needs
 read16-requires-6 : tie.Need-read16-requires-6
 read16-requires-6 c κs = search needs
 
-add-t15 : tie.Need-add-t15
-add-t15 c = search needs
+add-t17 : tie.Need-add-t17
+add-t17 c = search needs
 
 returns : tie.Need-returns
 returns c =
     Tailings.tail-reads _ _ _ _ _ _ _ _ (c .before .before .before .before .before .read16 .ensures) (c .before .before .before .before .read162 .ensures) (c .before .before .before .read163 .ensures) (c .before .before .read164 .ensures) (c .before .read165 .ensures) (c .read166 .ensures)
+    ∙ ap (read (tail (λ t. t)) (c .before .before .before .before .before .before .before .before .args .part .now)) (c .before .before .before .before .before .before .skip-names .ensures .0)
 
 pub parse-spec : {M : Type 1} → statement M
 parse-spec =
     tie.close
     (tie.spec
+    skip-names-requires
     read16-requires
     add-name
     add-read16
@@ -71,5 +79,5 @@ parse-spec =
     read16-requires-5
     add-read16-4
     read16-requires-6
-    add-t15
+    add-t17
     returns)

@@ -1,0 +1,56 @@
+-- `vhead::head::fields_fault` meets its contract. The invariant: judging the fields that are left gives the whole. Assumes nothing.
+use Prim.Native.Nat.{_-_}
+use native.Mathlib.Omega.{arith}
+use mathlib.Core.Path.{_≡_, ap, _∙_}
+use borrow.Author.Needs.{needs}
+use Rattle.vhead.specs.Heads.{headIn, fieldAt, fieldsFrom, fieldsOf}
+use Rattle.vhead.specs.Steps.{judge}
+use Rattle.vhead.proofs.Judging
+use Rattle.vhead.proofs.head.fields_fault.Statement.{statement}
+use Rattle.vhead.proofs.head.fields_fault.Tie as tie
+
+abbrev Inv-loop : tie.InvT-loop
+Inv-loop part fields record-size so-far₀ i₀ so-far i = Judging.Judges (fieldsOf part (headIn part)) (fieldsFrom part (headIn part) (fields - i) i) fields so-far i
+
+abbrev μ-loop : tie.MeasureT-loop
+μ-loop part fields record-size so-far₀ i₀ so-far i = fields - i
+
+loop-holds : tie.Need-loop-holds Inv-loop μ-loop
+loop-holds c = let z : c .before .args .fields - 0 ≡ headIn (c .before .args .part .now) .fields = omega arith in Judging.judges-start _ _ _ (ap (λ n. fieldsFrom (c .before .args .part .now) (headIn (c .before .args .part .now)) n 0) z)
+
+field-at-requires : tie.Need-field-at-requires Inv-loop μ-loop
+field-at-requires c κs = (c .before .before .before .pre .0, omega (arith, c .loop-test .taken))
+
+judge-requires : tie.Need-judge-requires Inv-loop μ-loop
+judge-requires c κs = (omega (arith, c .before .before .loop .inv .low), c .field-at .ensures .1)
+
+add-i : tie.Need-add-i Inv-loop μ-loop
+add-i c = omega arith
+
+loop-less : tie.Need-loop-less Inv-loop μ-loop
+loop-less c = omega arith
+
+loop-again : tie.Need-loop-again Inv-loop μ-loop
+loop-again c = rw (c .judge .ensures ∙ ap (judge (c .before .before .before .loop .so-far)) (c .before .field-at .ensures .0))
+    (Judging.judges-next _ _ _ _ _ _ (c .before .before .before .loop .inv) (fieldAt (c .before .before .before .before .before .args .part .now) (headIn (c .before .before .before .before .before .args .part .now)) (c .before .before .before .loop .i)) (Judging.fields-next _ _ _ _ (c .before .before .loop-test .taken)) (c .before .before .loop-test .taken) (rw (c .before .field-at .ensures .0) at (c .before .field-at .ensures .1 .size)))
+
+verdict-requires : tie.Need-verdict-requires Inv-loop μ-loop
+verdict-requires c κs = search needs
+
+returns : tie.Need-returns Inv-loop μ-loop
+returns c = c .verdict .ensures ∙ Judging.judges-done _ _ _ _ _ (c .before .before .loop .inv) (Judging.fields-done _ _ _ _ (c .before .loop-test .left)) _
+
+pub fields-fault-spec : {M : Type 1} → statement M
+fields-fault-spec =
+    tie.close
+    (tie.spec
+    Inv-loop
+    μ-loop
+    loop-holds
+    field-at-requires
+    judge-requires
+    add-i
+    loop-less
+    loop-again
+    verdict-requires
+    returns)

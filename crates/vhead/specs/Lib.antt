@@ -1,0 +1,4 @@
+pub mod Limits
+pub mod Types
+pub mod Heads
+pub mod Steps

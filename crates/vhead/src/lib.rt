@@ -1,0 +1,5 @@
+// Heads of Vdatas: their records read and packed.
+pub mod field;
+pub mod format;
+pub mod head;
+pub mod refusals;
