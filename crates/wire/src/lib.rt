@@ -29,10 +29,10 @@ fn read_at_end(s: &[u8], at: usize, width: usize) -> usize
 pub fn read8(s: &[u8], at: usize) -> usize
     ensures { λ r. ⌜ Reads 1 (now (s .entry)) at r ⌝ }
 {
-    if s.len() <= at {
-        return 0;
+    if at < s.len() {
+        return wide(s[at]);
     }
-    wide(s[at])
+    0
 }
 
 pub fn read16(s: &[u8], at: usize) -> usize
