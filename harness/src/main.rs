@@ -35,6 +35,7 @@ use images::Image;
 use random::Random;
 use std::path::PathBuf;
 use std::process::ExitCode;
+use std::thread;
 use std::time::Instant;
 use tally::Tally;
 
@@ -158,14 +159,29 @@ fn run_generated(options: &Options, tally: &mut Tally) -> Result<(), String> {
     run_each(sequences, "sequences of edits", seed, sequences::compare, tally)
 }
 
-/// So many of one kind, and how long they took.
+/// So many of one kind, shared out to the processors, and how long they took.
 fn run_each(count: u64, title: &str, seed: u64, compare: Generated, tally: &mut Tally) -> Result<(), String> {
     let start = Instant::now();
-    for index in 0..count {
-        compare(seed, index, tally)?;
+    let workers = thread::available_parallelism().map_or(1, usize::from);
+    let tallies: Vec<Result<Tally, String>> = thread::scope(|scope| {
+        let shares = (0..workers).map(|first| (first as u64..count).step_by(workers));
+        let running: Vec<_> = shares.map(|share| scope.spawn(move || run_share(share, seed, compare))).collect();
+        running.into_iter().map(|worker| worker.join().expect("a worker ends")).collect()
+    });
+    for share in tallies {
+        tally.add(&share?);
     }
     println!("{count} {title}, seed {seed}, {:.1} s", start.elapsed().as_secs_f64());
     Ok(())
+}
+
+/// Those of some indices, up to the first difference.
+fn run_share(indices: impl Iterator<Item = u64>, seed: u64, compare: Generated) -> Result<Tally, String> {
+    let mut tally = Tally::default();
+    for index in indices {
+        compare(seed, index, &mut tally)?;
+    }
+    Ok(tally)
 }
 
 /// Prints the table of answers, and complains of a number that was never reached.

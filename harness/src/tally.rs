@@ -309,6 +309,13 @@ impl Call {
     }
 }
 
+/// Adds each count of a table to the one in the same place.
+fn add_each<const N: usize>(table: &mut [[u64; N]], other: &[[u64; N]]) {
+    for (count, more) in table.as_flattened_mut().iter_mut().zip(other.as_flattened()) {
+        *count += more;
+    }
+}
+
 impl Tally {
     pub fn count(&mut self, call: Call, number: u64) {
         self.reached[call as usize][number as usize] += 1;
@@ -331,6 +338,18 @@ impl Tally {
         if let Some(index) = TYPES.iter().position(|(known, _)| *known == number_type) {
             self.values[index][usize::from(cause == Cause::ByField)] += 1;
         }
+    }
+
+    /// What was counted elsewhere too.
+    pub fn add(&mut self, other: &Tally) {
+        self.files += other.files;
+        self.sequences += other.sequences;
+        self.undone_starts += other.undone_starts;
+        add_each(&mut self.reached, &other.reached);
+        add_each(&mut self.broken, &other.broken);
+        add_each(&mut self.gone, &other.gone);
+        add_each(&mut self.caused.0, &other.caused.0);
+        add_each(&mut self.values, &other.values);
     }
 
     pub fn calls(&self) -> u64 {
