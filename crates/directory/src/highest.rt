@@ -4,8 +4,9 @@ use super::format::LONE;
 use super::slot;
 ghost use mathlib.Core.Path.{_≡_};
 ghost use Prim.Native.Nat.{_≤_};
-ghost use Rattle.directory.specs.Cursor.{Stands, most-place, slotsAfter};
-ghost use Rattle.directory.specs.Highest.{Raised, Begins};
+ghost use Rattle.directory.specs.Steps.Cursors.{Stands, most-place};
+ghost use Rattle.directory.specs.Links.{slotsAfter};
+ghost use Rattle.directory.specs.Steps.References.{Raised, Begins};
 
 // The highest reference of the live slots so far, and the first slot that has it: its index, and a cursor at it.
 // Before any slot it is 0, and the slot is the first of all.

@@ -6,9 +6,13 @@ mod gap;
 mod highest;
 pub mod listing;
 pub mod places;
-pub mod refusals;
 mod slot;
 
+use answer::Refusal;
+use answer::refusals::ABSENT;
+use answer::refusals::NOT_HDF;
+use answer::refusals::TOO_LONG;
+use answer::refusals::TWICE;
 use chain::Walked;
 use cursor::Cursor;
 use format::FREE;
@@ -16,28 +20,15 @@ use format::MAGIC;
 use format::MOST_BYTES;
 use gap::Gap;
 use highest::Highest;
-use refusals::ABSENT;
-use refusals::NOT_HDF;
-use refusals::TOO_LONG;
-use refusals::TWICE;
 ghost use mathlib.Core.Path.{_≡_};
 ghost use mathlib.Core.Bool.{true};
 ghost use mathlib.Core.List.{[]};
 ghost use Prim.Native.Nat.{_≤_};
 ghost use lib.ListN.{length, take};
-ghost use Rattle.directory.specs.Answer.{openedNumbers, foundNumbers, refusalOf};
+ghost use Rattle.directory.specs.Opening.{openedNumbers, refusalOf, headed, slotsFrom, openOf};
+ghost use Rattle.directory.specs.Lookup.{foundNumbers, hitFound, findIn, findOf};
 ghost use Rattle.directory.specs.Slots.{slotPlaces};
-ghost use Rattle.directory.specs.Opening.{headed, slotsFrom, openOf};
-ghost use Rattle.directory.specs.Lookup.{has, hitFound, findOf};
-ghost use Rattle.directory.specs.Search.{first};
-ghost use Rattle.directory.specs.Cursor.{slotsAfter};
-ghost use Rattle.directory.specs.Places.{Blocks, Follows, Rising};
-
-// A refusal's number and place.
-pub struct Refusal {
-    pub number: usize,
-    pub place: usize,
-}
+ghost use Rattle.directory.specs.Steps.Places.{Blocks, Follows, Rising};
 
 // How many blocks and slots the chain has, and how many of the slots are live.
 pub struct Counts {
@@ -74,8 +65,10 @@ fn check_slots(
     slots: usize,
     rising: bool,
 ) -> Opened
-    requires { ⌜ Blocks (now image) (now places) blocks × Follows (now image) (take blocks (now places)) blocks slots × (rising ≡ true → Rising (now image) (now places) blocks) ⌝ }
-    ensures { λ r. ⌜ openedNumbers r ≡ slotsFrom (now (image .entry)) (take blocks (now (places .entry))) [] (slotPlaces (now (image .entry)) (take blocks (now (places .entry)))) 0 ⌝ }
+    requires { ⌜ Blocks (now image) (now places) blocks × Follows (now image) (take blocks (now places)) blocks slots
+        × (rising ≡ true → Rising (now image) (now places) blocks) ⌝ }
+    ensures { λ r. ⌜ (let s = now (image .entry) in let bs = take blocks (now (places .entry)) in
+        openedNumbers r ≡ slotsFrom s bs [] (slotPlaces s bs) 0) ⌝ }
 {
     let all = Highest::start(image, blocks);
     let mut highest = all;
@@ -163,7 +156,7 @@ pub fn refusal_of(opened: Opened) -> Refusal
 
 // The first live slot of a chain of so many blocks that has the base tag of a tag and a reference.
 pub fn find_slot(image: &[u8], blocks: usize, tag: u16, reference: u16) -> Found
-    ensures { λ r. ⌜ r ≡ hitFound (first (has (now (image .entry)) tag reference) (slotsAfter (now (image .entry)) blocks 4)) ⌝ }
+    ensures { λ r. ⌜ r ≡ hitFound (findIn (now (image .entry)) blocks tag reference) ⌝ }
 {
     let mut at = Cursor::start(image, blocks);
     while 0 < at.left {

@@ -1,14 +1,14 @@
 -- The floats of a value that was read have bits. Assumes nothing.
 use Prim.Native.Nat.{ℕ, _*_, _^_}
-use mathlib.Core.Path.{_≡_, sym, subst, _∙_}
+use mathlib.Core.Path.{sym, subst, _∙_}
 use mathlib.Core.Logic.{inl, inr}
-use mathlib.Core.Bool.{Bool, true, false, not}
+use mathlib.Core.Bool.{Bool, not}
 use mathlib.Core.List.{List}
 use lib.Dec.{T, ltb, eqb}
 use lib.Ieee.{binary32, binary64, nanBits}
 use lib.Ieee.Bits.{nanBits-is}
-use Rattle.directory.proofs.Tests.{test}
-use Rattle.vhead.specs.Types.{Kind, signed, unsigned, float, kindOf, widthOf}
+use Rattle.answer.proofs.Tests.{test}
+use Rattle.records.specs.Types.{Kind, signed, unsigned, float}
 use Rattle.vdata.specs.Patterns.{signedBy, float32, float64, valueBy, valueAt}
 use Rattle.vdata.specs.Values.{valueIn}
 use Rattle.hdf4.specs.VsetAnswers.{HasBits}

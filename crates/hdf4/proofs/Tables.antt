@@ -1,25 +1,26 @@
 -- Laws of the table of fields: what is read of a head, and the table that one record more at a time makes. Assumes nothing.
-use Prim.Native.Nat.{ℕ, zero, suc, _+_, _*_, _-_, _<_, _≤_}
+use Prim.Native.Nat.{ℕ, zero, suc, _+_, _-_, _<_, _≤_}
 use native.Mathlib.Nat.{suc-ne-zero}
 use native.Mathlib.Omega.{arith}
 use mathlib.Core.Path.{_≡_, refl, sym, ap, _∙_}
 use mathlib.Core.List.{List, [], _∷_, _++_}
-use lib.ListN.{length, take, drop, set, length-set}
+use lib.ListN.{length, drop, set, length-set}
 use Rattle.wire.specs.Numbers.{part}
 use Rattle.directory.specs.Limits.{most-bytes}
-use Rattle.directory.specs.Answer.{Answer}
-use Rattle.directory.specs.declared.Refusal.{Refusal}
-use Rattle.records.specs.Reading.{recordBytes}
+use Rattle.answer.specs.Lent.{laidOver}
+use Rattle.directory.specs.Lookup.{find}
+use Rattle.answer.specs.declared.Refusal.{Refusal}
 use Rattle.vhead.specs.Limits.{head-tag}
-use Rattle.vhead.specs.Heads.{headIn, startOf, headNumbers, headWithin, namedField}
-use Rattle.vhead.specs.Steps.{HeadHeld, Held}
+use Rattle.vhead.specs.Heads.{headIn, headNumbers, headWithin, namedField}
+use Rattle.vhead.specs.Steps.{HeadHeld}
 use Rattle.vhead.specs.declared.head.Head.{Head}
 use Rattle.vhead.specs.declared.head.NamedField.{NamedField}
 use Rattle.vhead.specs.declared.head.Answered.{Answered}
 use Rattle.vhead.specs.declared.head.Answered.the-variants.{Values, Refused}
-use Rattle.vhead.proofs.HeadPlaces.{head-names, name-inside}
+use Rattle.vhead.proofs.HeadsRead.{head-names, name-inside}
 use Rattle.hdf4.specs.VsetAnswers.{vdataAnswer, NamesFit}
-use Rattle.hdf4.specs.FieldTable.{Lies, Reads, fieldFrom, fieldIn, fieldsFrom, fieldsOf, tableAfter, filled}
+use Rattle.hdf4.specs.FieldTable.{fieldFrom, structsFrom, structsOf}
+use Rattle.hdf4.specs.Steps.{Lies, ReadsFields, fieldIn, filled}
 use Rattle.hdf4.specs.declared.vset_calls.VdataAnswer.{VdataAnswer}
 use Rattle.hdf4.specs.declared.field_table.Field.{Field}
 use Rattle.hdf4.specs.declared.field_table.Reading.{Reading}
@@ -38,8 +39,8 @@ module _ (s : List ℕ) (ref room : ℕ) where
 
   -- the answer of what was found
   module _ (a : VdataAnswer) (found : Answered) (is : vdataAnswer a ≡ headNumbers found) (answers : headNumbers found ≡ headWithin s ref room) where
-    pub reads-head : (start size : ℕ) (h : Head) → found ≡ Values start size h → HeadHeld s ref room start size h
-        → Reads s ref room (record { answer = a; start = start; size = size; fields = h .fields })
+    pub reads-head : (start size : ℕ) (h : Head) → found ≡ Values start size h → HeadHeld s (find s head-tag ref) room start size h
+        → ReadsFields s ref room (record { answer = a; start = start; size = size; fields = h .fields })
     reads-head start size h e held =
         let count : h .fields ≡ headIn (part s start size) .fields = ap (λ x. x .fields) (held .parsed) in
         record {
@@ -50,7 +51,7 @@ module _ (s : List ℕ) (ref room : ℕ) where
           refused = λ z. absurd (z (sym (ap (λ x. x .number) answers) ∙ ap (λ x. headNumbers x .number) e));
         }
 
-    pub reads-none : (x : Refusal) → found ≡ Refused x → (x .number ≡ 0 → ⊥) → Reads s ref room (record { answer = a; start = 0; size = 0; fields = 0 })
+    pub reads-none : (x : Refusal) → found ≡ Refused x → (x .number ≡ 0 → ⊥) → ReadsFields s ref room (record { answer = a; start = 0; size = 0; fields = 0 })
     reads-none x e z =
         record {
           answers = is ∙ answers;
@@ -75,18 +76,18 @@ module _ (s : List ℕ) (r : Reading) (i : ℕ) (e : List ℕ) (is : e ≡ part 
 -- ---- The table
 
 module _ (start : ℕ) (e : List ℕ) where
-  length-fields : (n i : ℕ) → length (fieldsFrom start e n i) ≡ n
-  unfolding fieldsFrom
+  length-fields : (n i : ℕ) → length (structsFrom start e n i) ≡ n
+  unfolding structsFrom
   length-fields zero i = refl
   length-fields (suc n) i = ap suc (length-fields n (i + 1))
 
   -- one field more at the end
-  fields-next : (n i : ℕ) → fieldsFrom start e (suc n) i ≡ fieldsFrom start e n i ++ (fieldFrom start (namedField e (i + n)) ∷ [])
-  unfolding fieldsFrom
+  fields-next : (n i : ℕ) → structsFrom start e (suc n) i ≡ structsFrom start e n i ++ (fieldFrom start (namedField e (i + n)) ∷ [])
+  unfolding structsFrom
   fields-next zero i = let z : i ≡ i + 0 = omega arith in ap (λ k. fieldFrom start (namedField e k) ∷ []) z
   fields-next (suc n) i =
       let z : i + 1 + n ≡ i + suc n = omega arith in
-      ap (λ l. fieldFrom start (namedField e i) ∷ l) (fields-next n (i + 1) ∙ ap (λ k. fieldsFrom start e n (i + 1) ++ (fieldFrom start (namedField e k) ∷ [])) z)
+      ap (λ l. fieldFrom start (namedField e i) ∷ l) (fields-next n (i + 1) ∙ ap (λ k. structsFrom start e n (i + 1) ++ (fieldFrom start (namedField e k) ∷ [])) z)
 
 -- a list up to a place and from it on, with that place set
 set-after : (xs t : List Field) (f : Field) → length xs < length t → set (xs ++ drop (length xs) t) (length xs) f ≡ (xs ++ (f ∷ [])) ++ drop (suc (length xs)) t
@@ -101,12 +102,12 @@ module _ (s : List ℕ) (r : Reading) (t : List Field) where
   length-filled zero = refl
   length-filled (suc k) = length-set (filled s r k t) k (fieldIn s r k) ∙ length-filled k
 
-  filled-is : (k : ℕ) → k ≤ length t → filled s r k t ≡ fieldsFrom (r .start) (part s (r .start) (r .size)) k 0 ++ drop k t
-  unfolding filled fieldsFrom
+  filled-is : (k : ℕ) → k ≤ length t → filled s r k t ≡ structsFrom (r .start) (part s (r .start) (r .size)) k 0 ++ drop k t
+  unfolding filled structsFrom
   filled-is zero h = refl
   filled-is (suc k) h =
       let e = part s (r .start) (r .size) in
-      let front = fieldsFrom (r .start) e k 0 in
+      let front = structsFrom (r .start) e k 0 in
       let long : length front ≡ k = length-fields (r .start) e k 0 in
       let z : 0 + k ≡ k = omega arith in
       ap (λ l. set l k (fieldIn s r k)) (filled-is k (omega arith))
@@ -116,19 +117,19 @@ module _ (s : List ℕ) (r : Reading) (t : List Field) where
       ∙ ap (λ l. l ++ drop (suc k) t) (sym (fields-next (r .start) e k 0 ∙ ap (λ m. front ++ (fieldFrom (r .start) (namedField e m) ∷ [])) z))
 
 -- what a call leaves in a table that is filled field by field
-module _ (s : List ℕ) (ref : ℕ) (t : List Field) (r : Reading) (reads : Reads s ref (length t) r) where
-  by-number : (number : ℕ) → headWithin s ref (length t) .number ≡ number → filled s r (r .fields) t ≡ tableAfter (headWithin s ref (length t)) (fieldsOf s ref) t
-  unfolding tableAfter filled
+module _ (s : List ℕ) (ref : ℕ) (t : List Field) (r : Reading) (reads : ReadsFields s ref (length t) r) where
+  by-number : (number : ℕ) → headWithin s ref (length t) .number ≡ number → filled s r (r .fields) t ≡ laidOver (headWithin s ref (length t)) (structsOf s ref) t
+  unfolding laidOver filled
   by-number zero q =
       let g = reads .granted q in
       let e = part s (r .start) (r .size) in
-      let same : fieldsOf s ref ≡ fieldsFrom (r .start) e (r .fields) 0 = rw (g .0, g .1, g .2) in
+      let same : structsOf s ref ≡ structsFrom (r .start) e (r .fields) 0 = rw (g .0, g .1, g .2) in
       filled-is s r t (r .fields) (reads .fits)
-      ∙ ap (λ n. fieldsFrom (r .start) e (r .fields) 0 ++ drop n t) (sym (length-fields (r .start) e (r .fields) 0))
+      ∙ ap (λ n. structsFrom (r .start) e (r .fields) 0 ++ drop n t) (sym (length-fields (r .start) e (r .fields) 0))
       ∙ rw (q, same)
   by-number (suc number) q =
       let z : r .fields ≡ 0 = reads .refused (λ y. absurd (suc-ne-zero number (sym q ∙ y))) in
       rw (q, z)
 
-  pub filled-whole : filled s r (r .fields) t ≡ tableAfter (headWithin s ref (length t)) (fieldsOf s ref) t
+  pub filled-whole : filled s r (r .fields) t ≡ laidOver (headWithin s ref (length t)) (structsOf s ref) t
   filled-whole = by-number (headWithin s ref (length t) .number) refl

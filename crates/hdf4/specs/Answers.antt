@@ -1,10 +1,9 @@
 -- The structs that the C functions return, as answers: number, place, then the values in order. Assumes nothing.
 use Prim.Native.Nat.{ℕ}
-use mathlib.Core.Path.{_≡_}
 use mathlib.Core.List.{List, [], _∷_}
-use Rattle.directory.specs.Answer.{Answer}
-use Rattle.journal.specs.Outcome.{Outcome, outcomeAnswer}
-use Rattle.journal.specs.Buffer.{laidOver, putBack}
+use Rattle.answer.specs.Answer.{Answer}
+use Rattle.answer.specs.Lent.{Does}
+use Rattle.journal.specs.Outcomes.{Outcome, outcomeAnswer, fileOf}
 use Rattle.hdf4.specs.declared.ViewAnswer.{ViewAnswer}
 use Rattle.hdf4.specs.declared.CopyAnswer.{CopyAnswer}
 use Rattle.hdf4.specs.declared.ChooseAnswer.{ChooseAnswer}
@@ -34,12 +33,6 @@ chooseAnswer r = record { number = r .number; place = r .place; values = r .whic
 abbrev pub editAnswer : EditAnswer → Answer
 editAnswer r = record { number = r .number; place = r .place; values = r .length ∷ [] }
 
--- an edit: its answer, and the buffer afterwards
-pub record Edits (before after : List ℕ) (outcome : Outcome) (r : EditAnswer) : Type 0 where
-  pub answer : editAnswer r ≡ outcomeAnswer outcome
-  pub lent : after ≡ laidOver before outcome
-
--- an undo: its answer, and the buffer afterwards
-pub record Undoes (before after : List ℕ) (n : ℕ) (outcome : Outcome) (r : EditAnswer) : Type 0 where
-  pub answer : editAnswer r ≡ outcomeAnswer outcome
-  pub lent : after ≡ putBack before n outcome
+-- an edit or an undo: its answer, and the file laid over the front of the buffer
+abbrev pub Edits : Outcome → List ℕ → List ℕ → EditAnswer → Type 0
+Edits outcome before after r = Does (outcomeAnswer outcome) (fileOf outcome) before after (editAnswer r)

@@ -1,11 +1,7 @@
--- The structs that the C functions of records return, as answers, and what packing leaves. Assumes nothing.
+-- The structs that the C functions of records return, as answers. Assumes nothing.
 use Prim.Native.Nat.{ℕ}
-use mathlib.Core.Path.{_≡_}
-use mathlib.Core.List.{List, [], _∷_}
-use lib.ListN.{length}
-use Rattle.directory.specs.Answer.{Answer}
-use Rattle.storage.specs.Copy.{laidOver}
-use Rattle.records.specs.Packing.{packOf}
+use mathlib.Core.List.{[], _∷_}
+use Rattle.answer.specs.Answer.{Answer}
 use Rattle.records.specs.declared.dimension.Dimension.{Dimension}
 use Rattle.hdf4.specs.declared.record_calls.NumberTypeAnswer.{NumberTypeAnswer}
 use Rattle.hdf4.specs.declared.record_calls.DimensionAnswer.{DimensionAnswer}
@@ -43,8 +39,3 @@ arrayAnswer r = record { number = r .number; place = r .place; values = r .rank 
 
 abbrev pub packAnswer : PackAnswer → Answer
 packAnswer r = record { number = r .number; place = r .place; values = r .length ∷ [] }
-
--- packing: its answer, and the lent buffer afterwards
-pub record Packs (fault : ℕ) (bytes out after : List ℕ) (r : PackAnswer) : Type 0 where
-  pub answers : packAnswer r ≡ packOf fault bytes (length out)
-  pub leaves : after ≡ laidOver (packOf fault bytes (length out)) bytes out

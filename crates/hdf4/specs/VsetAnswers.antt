@@ -1,10 +1,10 @@
 -- The structs that the C functions of Vgroups and Vdatas return, as answers. Assumes nothing.
 use Prim.Native.Nat.{ℕ, _+_, _≤_}
-use mathlib.Core.Bool.{true, false, not}
-use mathlib.Core.List.{List, [], _∷_}
+use mathlib.Core.Bool.{not}
+use mathlib.Core.List.{[], _∷_}
 use lib.Dec.{T}
 use lib.Ieee.{isNan}
-use Rattle.directory.specs.Answer.{Answer}
+use Rattle.answer.specs.Answer.{Answer}
 use Rattle.directory.specs.Limits.{most-bytes}
 use Rattle.vset.specs.declared.tail.Ending.{Ending}
 use Rattle.vhead.specs.declared.head.Start.{Start}

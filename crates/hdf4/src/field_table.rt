@@ -6,9 +6,11 @@ use vhead::head::Answered;
 ghost use mathlib.Core.Path.{_≡_};
 ghost use Prim.Native.Nat.{_<_};
 ghost use lib.ListN.{length};
+ghost use Rattle.answer.specs.Lent.{Does};
 ghost use Rattle.vhead.specs.Heads.{headWithin};
 ghost use Rattle.hdf4.specs.VsetAnswers.{vdataAnswer};
-ghost use Rattle.hdf4.specs.FieldTable.{Lies, Reads, fieldIn, fieldsOf, tableAfter};
+ghost use Rattle.hdf4.specs.FieldTable.{structsOf};
+ghost use Rattle.hdf4.specs.Steps.{Lies, ReadsFields, fieldIn};
 
 // Type, size, offset and order of a field, and where its name stands in the image and how long it is.
 #[repr(C)]
@@ -30,7 +32,7 @@ pub struct Reading {
 }
 
 fn read_head(image: &[u8], reference: u16, room: usize) -> Reading
-    ensures { λ r. ⌜ Reads (now (image .entry)) reference room r ⌝ }
+    ensures { λ r. ⌜ ReadsFields (now (image .entry)) reference room r ⌝ }
 {
     let found = head::find(image, reference, room);
     let answer = vdata_answer(found);
@@ -67,8 +69,7 @@ fn field_at(image: &[u8], r: Reading, i: usize) -> Field
     ensures { λ f. ⌜ f ≡ fieldIn (now (image .entry)) r i ⌝ }
 {
     let start = r.start;
-    let end = start + r.size;
-    let f = head::field(&image[start..end], i as u16);
+    let f = head::field(wire::part(image, start, r.size), i as u16);
     Field {
         code: f.numbers.code as u16,
         size: f.numbers.size as u16,
@@ -81,8 +82,8 @@ fn field_at(image: &[u8], r: Reading, i: usize) -> Field
 
 #[no_mangle]
 pub extern "C" fn hdf4_read_fields(image: &[u8], reference: u16, table: &mut [Field]) -> VdataAnswer
-    ensures { λ r. ⌜ (vdataAnswer r ≡ headWithin (now (image .entry)) reference (length (now (table .entry))))
-        × (now (table .exit) ≡ tableAfter (headWithin (now (image .entry)) reference (length (now (table .entry)))) (fieldsOf (now (image .entry)) reference) (now (table .entry))) ⌝ }
+    ensures { λ r. ⌜ Does (headWithin (now (image .entry)) reference (length (now (table .entry)))) (structsOf (now (image .entry)) reference)
+        (now (table .entry)) (now (table .exit)) (vdataAnswer r) ⌝ }
 {
     let r = read_head(image, reference, table.len());
     let n = count_of(r);

@@ -8,20 +8,21 @@ use directory::Found;
 use directory::Opened;
 use directory::listing::Listed;
 use journal::Edited;
-use storage::Copied;
 use storage::choose::Chosen;
+use storage::copy::Copied;
 use storage::view::Viewed;
 ghost use mathlib.Core.Path.{_≡_};
 ghost use lib.ListN.{length};
+ghost use Rattle.answer.specs.Lent.{Does};
 ghost use Rattle.directory.specs.Opening.{openOf};
 ghost use Rattle.directory.specs.Lookup.{findOf};
-ghost use Rattle.directory.specs.Listing.{listOf, tableAfter};
-ghost use Rattle.storage.specs.View.{viewOf};
-ghost use Rattle.storage.specs.Copy.{copyOf, copyAfter};
-ghost use Rattle.storage.specs.Choose.{chooseOf};
-ghost use Rattle.journal.specs.Outcome.{editedNumbers};
-ghost use Rattle.journal.specs.Buffer.{addIn, replaceInBuffer, removeIn, undoIn};
-ghost use Rattle.hdf4.specs.Answers.{openAnswer, findAnswer, listAnswer, viewAnswer, copyAnswer, chooseAnswer, editAnswer, Edits, Undoes};
+ghost use Rattle.directory.specs.Descriptors.{listOf, elementsOf};
+ghost use Rattle.storage.specs.Views.{viewOf};
+ghost use Rattle.storage.specs.Copies.{copyOf, elementBytes};
+ghost use Rattle.storage.specs.Choices.{chooseOf};
+ghost use Rattle.journal.specs.Outcomes.{editedNumbers};
+ghost use Rattle.journal.specs.Buffers.{addIn, replaceIn, removeIn, undoIn};
+ghost use Rattle.hdf4.specs.Answers.{openAnswer, findAnswer, listAnswer, viewAnswer, copyAnswer, chooseAnswer, editAnswer, Edits};
 
 #[repr(C)]
 pub struct OpenAnswer {
@@ -121,8 +122,8 @@ pub extern "C" fn hdf4_find(image: &[u8], tag: u16, reference: u16) -> FindAnswe
 
 #[no_mangle]
 pub extern "C" fn hdf4_list(image: &[u8], table: &mut [u32]) -> ListAnswer
-    ensures answer { λ r. ⌜ listAnswer r ≡ listOf (now (image .entry)) (length (now (table .entry))) ⌝ }
-    ensures lent { λ _. ⌜ now (table .exit) ≡ tableAfter (now (image .entry)) (now (table .entry)) ⌝ }
+    ensures { λ r. ⌜ Does (listOf (now (image .entry)) (length (now (table .entry)))) (elementsOf (now (image .entry)))
+        (now (table .entry)) (now (table .exit)) (listAnswer r) ⌝ }
 {
     let listed = directory::listing::list(image, table);
     match listed {
@@ -162,10 +163,10 @@ pub extern "C" fn hdf4_view(image: &[u8], tag: u16, reference: u16) -> ViewAnswe
 
 #[no_mangle]
 pub extern "C" fn hdf4_copy(image: &[u8], tag: u16, reference: u16, out: &mut [u8]) -> CopyAnswer
-    ensures answer { λ r. ⌜ copyAnswer r ≡ copyOf (now (image .entry)) tag reference (length (now (out .entry))) ⌝ }
-    ensures lent { λ _. ⌜ now (out .exit) ≡ copyAfter (now (image .entry)) tag reference (now (out .entry)) ⌝ }
+    ensures { λ r. ⌜ Does (copyOf (now (image .entry)) tag reference (length (now (out .entry)))) (elementBytes (now (image .entry)) tag reference)
+        (now (out .entry)) (now (out .exit)) (copyAnswer r) ⌝ }
 {
-    let copied = storage::copy(image, tag, reference, out);
+    let copied = storage::copy::copy(image, tag, reference, out);
     match copied {
         Copied::Bytes(n) => CopyAnswer {
             number: 0,
@@ -240,7 +241,7 @@ pub extern "C" fn hdf4_add(
     reference: u16,
     content: &[u8],
 ) -> EditAnswer
-    ensures { λ r. ⌜ Edits (now (buffer .entry)) (now (buffer .exit)) (addIn (now (buffer .entry)) n tag reference (now (content .entry))) r ⌝ }
+    ensures { λ r. ⌜ Edits (addIn (now (buffer .entry)) n tag reference (now (content .entry))) (now (buffer .entry)) (now (buffer .exit)) r ⌝ }
 {
     edit_answer(journal::add(buffer, n as usize, tag, reference, content))
 }
@@ -253,21 +254,22 @@ pub extern "C" fn hdf4_replace(
     reference: u16,
     content: &[u8],
 ) -> EditAnswer
-    ensures { λ r. ⌜ Edits (now (buffer .entry)) (now (buffer .exit)) (replaceInBuffer (now (buffer .entry)) n tag reference (now (content .entry))) r ⌝ }
+    ensures { λ r. ⌜ Edits (replaceIn (now (buffer .entry)) n tag reference (now (content .entry)))
+        (now (buffer .entry)) (now (buffer .exit)) r ⌝ }
 {
     edit_answer(journal::replace(buffer, n as usize, tag, reference, content))
 }
 
 #[no_mangle]
 pub extern "C" fn hdf4_remove(buffer: &mut [u8], n: u64, tag: u16, reference: u16) -> EditAnswer
-    ensures { λ r. ⌜ Edits (now (buffer .entry)) (now (buffer .exit)) (removeIn (now (buffer .entry)) n tag reference) r ⌝ }
+    ensures { λ r. ⌜ Edits (removeIn (now (buffer .entry)) n tag reference) (now (buffer .entry)) (now (buffer .exit)) r ⌝ }
 {
     edit_answer(journal::remove(buffer, n as usize, tag, reference))
 }
 
 #[no_mangle]
 pub extern "C" fn hdf4_undo(buffer: &mut [u8], n: u64) -> EditAnswer
-    ensures { λ r. ⌜ Undoes (now (buffer .entry)) (now (buffer .exit)) n (undoIn (now (buffer .entry)) n) r ⌝ }
+    ensures { λ r. ⌜ Edits (undoIn (now (buffer .entry)) n) (now (buffer .entry)) (now (buffer .exit)) r ⌝ }
 {
     edit_answer(journal::undo(buffer, n as usize))
 }

@@ -7,14 +7,14 @@ use records::number_type;
 use records::number_type::NumberType;
 ghost use mathlib.Core.Path.{_≡_};
 ghost use lib.ListN.{length};
-ghost use Rattle.storage.specs.Copy.{laidOver};
+ghost use Rattle.directory.specs.Lookup.{find};
 ghost use Rattle.records.specs.Limits.{array-tag};
-ghost use Rattle.records.specs.Reading.{recordBytes};
-ghost use Rattle.records.specs.Packing.{packedNumbers};
+ghost use Rattle.records.specs.Readings.{recordBytes};
+ghost use Rattle.records.specs.Packings.{packedNumbers, Packs};
 ghost use Rattle.records.specs.NumberTypes.{numberTypeOf, numberTypeBytes};
 ghost use Rattle.records.specs.Dimensions.{dimensionOf, dimensionBytes, dimensionPackFault};
-ghost use Rattle.records.specs.Arrays.{arrayOf, arraySizes, arrayPairs, arrayBytes, arrayPackFault};
-ghost use Rattle.hdf4.specs.RecordAnswers.{numberTypeAnswer, dimensionAnswer, dimensionFrom, arrayAnswer, packAnswer, Packs};
+ghost use Rattle.records.specs.Arrays.{arrayOf, ReadsArray, arrayBytes, arrayPackFault};
+ghost use Rattle.hdf4.specs.RecordAnswers.{numberTypeAnswer, dimensionAnswer, dimensionFrom, arrayAnswer, packAnswer};
 
 #[repr(C)]
 pub struct NumberTypeAnswer {
@@ -104,7 +104,8 @@ pub extern "C" fn hdf4_pack_number_type(
     class: u8,
     out: &mut [u8],
 ) -> PackAnswer
-    ensures { λ r. ⌜ Packs 0 (numberTypeBytes (record { version = version; code = code; width = width; class = class })) (now (out .entry)) (now (out .exit)) r ⌝ }
+    ensures { λ r. ⌜ Packs 0 (numberTypeBytes (record { version = version; code = code; width = width; class = class }))
+        (now (out .entry)) (now (out .exit)) (packAnswer r) ⌝ }
 {
     let x = NumberType {
         version,
@@ -160,7 +161,8 @@ pub extern "C" fn hdf4_pack_dimension(
     compression_ref: u16,
     out: &mut [u8],
 ) -> PackAnswer
-    ensures { λ r. ⌜ (let d = dimensionFrom x y «type_tag» «type_ref» elements interlace «compression_tag» «compression_ref» in Packs (dimensionPackFault d) (dimensionBytes d) (now (out .entry)) (now (out .exit)) r) ⌝ }
+    ensures { λ r. ⌜ (let d = dimensionFrom x y «type_tag» «type_ref» elements interlace «compression_tag» «compression_ref» in
+        Packs (dimensionPackFault d) (dimensionBytes d) (now (out .entry)) (now (out .exit)) (packAnswer r)) ⌝ }
 {
     let d = Dimension {
         x,
@@ -182,9 +184,9 @@ pub extern "C" fn hdf4_read_array(
     sizes: &mut [u32],
     pairs: &mut [u16],
 ) -> ArrayAnswer
-    ensures answer { λ r. ⌜ arrayAnswer r ≡ arrayOf (now (image .entry)) reference (length (now (sizes .entry))) (length (now (pairs .entry))) ⌝ }
-    ensures sizes { λ _. ⌜ now (sizes .exit) ≡ laidOver (arrayOf (now (image .entry)) reference (length (now (sizes .entry))) (length (now (pairs .entry)))) (arraySizes (recordBytes (now (image .entry)) array-tag reference)) (now (sizes .entry)) ⌝ }
-    ensures pairs { λ _. ⌜ now (pairs .exit) ≡ laidOver (arrayOf (now (image .entry)) reference (length (now (sizes .entry))) (length (now (pairs .entry)))) (arrayPairs (recordBytes (now (image .entry)) array-tag reference)) (now (pairs .entry)) ⌝ }
+    ensures { λ r. ⌜ (let s = now (image .entry) in
+        ReadsArray (arrayOf s reference (length (now (sizes .entry))) (length (now (pairs .entry)))) (recordBytes s (find s array-tag reference))
+        (now (sizes .entry)) (now (sizes .exit)) (now (pairs .entry)) (now (pairs .exit)) (arrayAnswer r)) ⌝ }
 {
     let answered = array::read(image, reference, sizes, pairs);
     match answered {
@@ -203,7 +205,8 @@ pub extern "C" fn hdf4_read_array(
 
 #[no_mangle]
 pub extern "C" fn hdf4_pack_array(sizes: &[u32], pairs: &[u16], out: &mut [u8]) -> PackAnswer
-    ensures { λ r. ⌜ Packs (arrayPackFault (length (now (sizes .entry))) (length (now (pairs .entry)))) (arrayBytes (now (sizes .entry)) (now (pairs .entry))) (now (out .entry)) (now (out .exit)) r ⌝ }
+    ensures { λ r. ⌜ Packs (arrayPackFault (length (now (sizes .entry))) (length (now (pairs .entry))))
+        (arrayBytes (now (sizes .entry)) (now (pairs .entry))) (now (out .entry)) (now (out .exit)) (packAnswer r) ⌝ }
 {
     pack_answer(array::pack(sizes, pairs, out))
 }

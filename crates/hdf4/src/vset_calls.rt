@@ -12,17 +12,19 @@ use vset::tail::Ending;
 ghost use mathlib.Core.Path.{_≡_};
 ghost use mathlib.Core.List.{[], _∷_};
 ghost use lib.ListN.{length};
-ghost use Rattle.storage.specs.Copy.{laidOver};
-ghost use Rattle.records.specs.Reading.{recordBytes};
+ghost use Rattle.answer.specs.Answer.{grant};
+ghost use Rattle.answer.specs.Lent.{Does};
+ghost use Rattle.directory.specs.Lookup.{find};
+ghost use Rattle.records.specs.Readings.{recordBytes};
+ghost use Rattle.records.specs.Packings.{Packs};
 ghost use Rattle.vgroup.specs.Limits.{group-tag};
-ghost use Rattle.vhead.specs.Limits.{head-tag};
 ghost use Rattle.vgroup.specs.Groups.{groupOf, groupMembers, groupBytes, groupPackFault};
-ghost use Rattle.vhead.specs.Heads.{headOf, headFields, headNames, startOf, headNumbers, headBytes, headPackFault};
-ghost use Rattle.directory.specs.Answer.{grant};
+ghost use Rattle.vgroup.specs.Listings.{listingOf, pairsOf};
+ghost use Rattle.vhead.specs.Limits.{head-tag};
+ghost use Rattle.vhead.specs.Heads.{headOf, ReadsHead, headNumbers, headBytes, headPackFault};
 ghost use Rattle.vdata.specs.Patterns.{complement, valueKind, valueBits};
 ghost use Rattle.vdata.specs.Values.{valueOf};
-ghost use Rattle.vgroup.specs.Listings.{listingOf, pairsOf};
-ghost use Rattle.hdf4.specs.RecordAnswers.{Packs};
+ghost use Rattle.hdf4.specs.RecordAnswers.{packAnswer};
 ghost use Rattle.hdf4.specs.VsetAnswers.{groupAnswer, vdataAnswer, valueAnswer, HasBits, pairsAnswer, NamesFit, endingFrom, startFrom};
 
 #[repr(C)]
@@ -75,8 +77,9 @@ pub struct PairsAnswer {
 
 #[no_mangle]
 pub extern "C" fn hdf4_read_group(image: &[u8], reference: u16, members: &mut [u16]) -> GroupAnswer
-    ensures answer { λ r. ⌜ groupAnswer r ≡ groupOf (now (image .entry)) reference (length (now (members .entry))) ⌝ }
-    ensures lent { λ _. ⌜ now (members .exit) ≡ laidOver (groupOf (now (image .entry)) reference (length (now (members .entry)))) (groupMembers (recordBytes (now (image .entry)) group-tag reference)) (now (members .entry)) ⌝ }
+    ensures { λ r. ⌜ (let s = now (image .entry) in
+        Does (groupOf s reference (length (now (members .entry)))) (groupMembers (recordBytes s (find s group-tag reference)))
+        (now (members .entry)) (now (members .exit)) (groupAnswer r)) ⌝ }
 {
     let answered = group::read(image, reference, members);
     match answered {
@@ -120,7 +123,10 @@ pub extern "C" fn hdf4_pack_group(
     more: u16,
     out: &mut [u8],
 ) -> PackAnswer
-    ensures { λ r. ⌜ Packs (groupPackFault (length (now (members .entry))) (length (now (name .entry))) (length (now (class .entry))) version) (groupBytes (now (members .entry)) (now (name .entry)) (now (class .entry)) (endingFrom «extension_tag» «extension_ref» version more)) (now (out .entry)) (now (out .exit)) r ⌝ }
+    ensures { λ r. ⌜ (let ms = now (members .entry) in let n = now (name .entry) in let k = now (class .entry) in
+        Packs (groupPackFault (length ms) (length n) (length k) version)
+        (groupBytes ms n k (endingFrom «extension_tag» «extension_ref» version more))
+        (now (out .entry)) (now (out .exit)) (packAnswer r)) ⌝ }
 {
     let x = Ending {
         extension_tag,
@@ -138,9 +144,9 @@ pub extern "C" fn hdf4_read_vdata(
     fields: &mut [u16],
     names: &mut [u32],
 ) -> VdataAnswer
-    ensures answer { λ r. ⌜ vdataAnswer r ≡ headOf (now (image .entry)) reference (length (now (fields .entry))) (length (now (names .entry))) ⌝ }
-    ensures fields { λ _. ⌜ now (fields .exit) ≡ laidOver (headOf (now (image .entry)) reference (length (now (fields .entry))) (length (now (names .entry)))) (headFields (recordBytes (now (image .entry)) head-tag reference)) (now (fields .entry)) ⌝ }
-    ensures names { λ _. ⌜ now (names .exit) ≡ laidOver (headOf (now (image .entry)) reference (length (now (fields .entry))) (length (now (names .entry)))) (headNames (startOf (now (image .entry)) reference) (recordBytes (now (image .entry)) head-tag reference)) (now (names .entry)) ⌝ }
+    ensures { λ r. ⌜ (let s = now (image .entry) in
+        ReadsHead (headOf s reference (length (now (fields .entry))) (length (now (names .entry)))) s (find s head-tag reference)
+        (now (fields .entry)) (now (fields .exit)) (now (names .entry)) (now (names .exit)) (vdataAnswer r)) ⌝ }
 {
     vdata_answer(head::read(image, reference, fields, names))
 }
@@ -206,7 +212,12 @@ pub extern "C" fn hdf4_pack_vdata(
     more: u16,
     out: &mut [u8],
 ) -> PackAnswer
-    ensures { λ r. ⌜ (let b = startFrom interlace records «record_size» in Packs (headPackFault b (now (fields .entry)) (now («name_lengths» .entry)) (length (now (names .entry))) (length (now (name .entry))) (length (now (class .entry))) version) (headBytes b (now (fields .entry)) (now («name_lengths» .entry)) (now (names .entry)) (now (name .entry)) (now (class .entry)) (endingFrom «extension_tag» «extension_ref» version more)) (now (out .entry)) (now (out .exit)) r) ⌝ }
+    ensures { λ r. ⌜ (let b = startFrom interlace records «record_size» in
+        let rows = now (fields .entry) in let lengths = now («name_lengths» .entry) in
+        let all = now (names .entry) in let n = now (name .entry) in let k = now (class .entry) in
+        Packs (headPackFault b rows lengths (length all) (length n) (length k) version)
+        (headBytes b rows lengths all n k (endingFrom «extension_tag» «extension_ref» version more))
+        (now (out .entry)) (now (out .exit)) (packAnswer r)) ⌝ }
 {
     let b = Start {
         interlace,
@@ -288,8 +299,8 @@ pub extern "C" fn hdf4_read_value(
 
 #[no_mangle]
 pub extern "C" fn hdf4_list_group(image: &[u8], reference: u16, list: &mut [u16]) -> PairsAnswer
-    ensures answer { λ r. ⌜ pairsAnswer r ≡ listingOf (now (image .entry)) reference (length (now (list .entry))) ⌝ }
-    ensures lent { λ _. ⌜ now (list .exit) ≡ laidOver (listingOf (now (image .entry)) reference (length (now (list .entry)))) (pairsOf (now (image .entry)) reference (length (now (list .entry)))) (now (list .entry)) ⌝ }
+    ensures { λ r. ⌜ (let s = now (image .entry) in let room = length (now (list .entry)) in
+        Does (listingOf s reference room) (pairsOf s reference room) (now (list .entry)) (now (list .exit)) (pairsAnswer r)) ⌝ }
 {
     let listed = listing::list(image, reference, list);
     match listed {

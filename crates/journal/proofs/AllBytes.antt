@@ -1,13 +1,18 @@
--- Every element of a file that an edit makes is a byte. Assumes nothing.
+-- Every element of a file that an edit makes, or undo restores, is a byte. Assumes nothing.
 use Prim.Native.Nat.{ℕ, zero, suc, _+_, _/_, _%_, _<_}
 use mathlib.Core.List.{List, [], _∷_, _++_}
+use mathlib.Core.Bool.{Bool, true, false}
 use native.Mathlib.Omega.{arith}
-use lib.ListN.{length, take, drop, set, replicate}
-use Rattle.wire.specs.Numbers.{bytes, put, part, Bytes}
-use Rattle.wire.proofs.Numbers.{bytes-part}
+use lib.ListN.{length, take, set}
+use lib.Dec.{eqb}
+use Rattle.wire.specs.Numbers.{bytes, put, Bytes}
+use Rattle.wire.specs.Layouts.{pack}
+use Rattle.wire.proofs.Numbers.{bytes-take}
 use Rattle.directory.specs.Limits.{free-tag}
-use Rattle.journal.specs.Trailer.{trailer, previousOf, closing}
-use Rattle.journal.specs.Edit.{slotBytes, freeSlot, freeSlots, newBlock, block-slots, dataOffset, dataSlot, slotEdit, blockEdit}
+use Rattle.journal.specs.Trailers.{slot-size, link-size, trailerBytes, changeAt, oldBytes}
+use Rattle.journal.specs.Undos.{restored}
+use Rattle.journal.specs.declared.change.Change.{Change}
+use Rattle.journal.specs.Edits.{slotBytes, freeSlot, freeSlots, newBlock, block-slots, dataOffset, dataSlot, slotEdit, blockEdit}
 
 -- ---- Lists of bytes
 
@@ -27,7 +32,7 @@ bytes-set [] at v b h = h
 bytes-set (x ∷ s) zero v b h = bytes-cons v s b (λ i. h (suc i))
 bytes-set (x ∷ s) (suc at) v b h = bytes-cons x (set s at v) (h 0) (bytes-set s at v b (λ i. h (suc i)))
 
-pub bytes-put : (s : List ℕ) (at : ℕ) (vs : List ℕ) → Bytes s → Bytes vs → Bytes (put s at vs)
+bytes-put : (s : List ℕ) (at : ℕ) (vs : List ℕ) → Bytes s → Bytes vs → Bytes (put s at vs)
 unfolding put
 bytes-put s at [] h g = h
 bytes-put s at (v ∷ vs) h g = bytes-put (set s at v) (suc at) vs (bytes-set s at v (g 0) h) (λ i. g (suc i))
@@ -36,10 +41,6 @@ bytes-number : (k x : ℕ) → Bytes (bytes k x)
 unfolding bytes
 bytes-number zero x = bytes-nil
 bytes-number (suc k) x = bytes-append (bytes k (x / 256)) (x % 256 ∷ []) (bytes-number k (x / 256)) (bytes-cons (x % 256) [] (omega arith) bytes-nil)
-
-bytes-zeros : (k : ℕ) → Bytes (replicate k 0)
-bytes-zeros zero = bytes-nil
-bytes-zeros (suc k) = bytes-cons 0 (replicate k 0) (omega arith) (bytes-zeros k)
 
 -- ---- What edits write
 
@@ -57,13 +58,19 @@ all-number k x = record { all = bytes-number k x }
 all-put : {s vs : List ℕ} (at : ℕ) → AllBytes s → AllBytes vs → AllBytes (put s at vs)
 all-put {s} {vs} at h g = record { all = bytes-put s at vs (h .all) (g .all) }
 
-all-part : {s : List ℕ} (at k : ℕ) → AllBytes s → AllBytes (part s at k)
-all-part {s} at k h = record { all = bytes-part s at k (h .all) }
+all-trailer : (c : Change) → AllBytes (trailerBytes c)
+unfolding trailerBytes pack
+all-trailer c =
+    all-number 4 _ then (all-number 4 _ then (all-number 4 _ then (all-number 4 _ then (all-number 4 _ then (all-number 4 _
+    then (all-number 4 _ then (all-number 4 _ then record { all = bytes-nil })))))))
 
-all-trailer : (place altered : ℕ) {old : List ℕ} (before previous : ℕ) → AllBytes old → AllBytes (trailer place altered old before previous)
-unfolding trailer
-all-trailer place altered before previous h =
-    all-number 4 place then all-number 4 altered then h then all-number 4 before then all-number 4 previous then all-number 4 closing
+all-old : (c : Change) → AllBytes (oldBytes c)
+unfolding oldBytes
+all-old c = go (eqb (c .altered) slot-size)
+  where
+    go : (b : Bool) → AllBytes (elim b [ true ↦ bytes 4 (c .first) ++ bytes 4 (c .second) ++ bytes 4 (c .third) | false ↦ bytes 4 (c .first) ])
+    go true = all-number 4 _ then all-number 4 _ then all-number 4 _
+    go false = all-number 4 _
 
 all-slot : (tag ref offset size : ℕ) → AllBytes (slotBytes tag ref offset size)
 unfolding slotBytes
@@ -89,17 +96,16 @@ pub bytes-data : (tag ref : ℕ) (content : List ℕ) (at : ℕ) → Bytes (data
 unfolding dataSlot
 bytes-data tag ref content at = all-slot tag ref (dataOffset content at) (length content) .all
 
--- ---- The file after an edit
+-- ---- The file after an edit, and the one that undo restores
 
 all-slot-edit : {s slot content : List ℕ} (p : ℕ) → AllBytes s → AllBytes slot → AllBytes content → AllBytes (slotEdit s p slot content)
 unfolding slotEdit
-all-slot-edit {s} p h g c = all-put p h g then c then all-trailer p 12 (length s) (previousOf s) (all-part p 12 h)
+all-slot-edit {s} p h g c = all-put p h g then c then all-trailer (changeAt s p slot-size)
 
 all-block-edit : {s block content : List ℕ} (b : ℕ) → AllBytes s → AllBytes block → AllBytes content → AllBytes (blockEdit s b block content)
 unfolding blockEdit
 all-block-edit {s} b h g c =
-    all-put (b + 2) h (all-number 4 (length s)) then g then c
-    then all-trailer (b + 2) 4 (length s) (previousOf s) (all-part (b + 2) 4 h then record { all = bytes-zeros 8 })
+    all-put (b + 2) h (all-number 4 (length s)) then g then c then all-trailer (changeAt s (b + 2) link-size)
 
 module _ (s : List ℕ) (p : ℕ) (slot content : List ℕ) (h : Bytes s) (g : Bytes slot) (c : Bytes content) where
   pub bytes-slot-edit : Bytes (slotEdit s p slot content)
@@ -112,3 +118,7 @@ module _ (s : List ℕ) (p : ℕ) (slot content : List ℕ) (h : Bytes s) (g : B
       let e : AllBytes (blockEdit s p (newBlock slot) content) =
       all-block-edit p (record { all = h }) (all-block (record { all = g })) (record { all = c }) in
       e .all
+
+pub bytes-restored : (s : List ℕ) (c : Change) → Bytes s → Bytes (restored s c)
+unfolding restored
+bytes-restored s c h = bytes-put (take (c .before) s) (c .place) (oldBytes c) (bytes-take (c .before) s h) (all-old c .all)

@@ -1,26 +1,29 @@
 -- An edit that appends a block: the file that it makes is framed by the file before, with free slots besides, and undo takes it back.
 -- Assumes nothing.
-use Prim.Native.Nat.{ℕ, zero, suc, _+_, _*_, _≤_, _<_}
+use Prim.Native.Nat.{ℕ, zero, suc, _+_, _≤_, _<_}
 use mathlib.Core.Path.{_≡_, refl, ap, _∙_}
 use mathlib.Core.Logic.{_⊎_, inl, inr}
 use mathlib.Core.List.{List, [], _∷_, _++_, append-assoc, append-nil}
 use native.Mathlib.Omega.{arith}
-use lib.ListN.{length, getD, replicate, length-append}
-use Rattle.wire.specs.Numbers.{bytes, put, part}
+use lib.ListN.{length, getD, length-append}
+use Rattle.wire.specs.Numbers.{bytes, put}
 use Rattle.wire.proofs.Numbers.{Same, Holds, length-bytes, be-same, be-holds}
 use Rattle.directory.specs.Limits.{most-blocks, most-slots, free-tag}
 use Rattle.directory.specs.Blocks.{slotCount, nextBlock, blockEnd}
 use Rattle.directory.specs.Slots.{tagAt, rows, slotPlaces}
-use Rattle.directory.specs.Room.{lastOf}
-use Rattle.directory.specs.Rules.{In, Pairwise, Apart, Linked, Kept}
-use Rattle.directory.proofs.Tests.{in-left, in-right, in-append, in-snoc, same?, pairwise-snoc}
+use Rattle.directory.specs.Links.{lastOf}
+use Rattle.answer.specs.Search.{In, Pairwise}
+use Rattle.directory.specs.Rules.{Apart, Linked, Kept}
+use Rattle.answer.proofs.Tests.{in-left, in-right, in-append, in-snoc, same?, pairwise-snoc}
 use Rattle.directory.proofs.Blocks.{length-rows, slots-append}
 use Rattle.directory.proofs.Rules.{BlocksKept, chain-kept, kept-blocks, kept-opens}
-use Rattle.journal.specs.Edit.{block-slots, block-size, freeSlot, freeSlots, newBlock, blockEdit}
-use Rattle.journal.proofs.Parts.{holds-left, holds-right, be-last, length-part}
+use Rattle.journal.specs.Trailers.{slot-size, link-size}
+use Rattle.journal.specs.Edits.{block-slots, block-size, freeSlot, freeSlots, newBlock, blockEdit}
+use Rattle.journal.proofs.Parts.{holds-left, holds-right, be-last}
 use Rattle.journal.proofs.Spacing.{blocks-two, blocks-distinct, slot-inside, header-clear}
 use Rattle.journal.proofs.Frames.{slot-same, places-same, blocks-same, Framed}
-use Rattle.journal.proofs.Written.{length-free, free-reads, Writes}
+use Rattle.journal.proofs.Runs.{length-free, length-block}
+use Rattle.journal.proofs.Written.{free-reads, Writes}
 use Rattle.journal.proofs.Changes.{Changed, changed, next-known, changed-undone}
 
 -- ---- The last block
@@ -48,29 +51,20 @@ linked-more s t d (b ∷ (c ∷ bs)) e same last ends p l = (
 
 -- ---- The new block
 
-length-frees : (k : ℕ) → length (freeSlots k) ≡ 12 * k
-unfolding freeSlots
-length-frees zero = refl
-length-frees (suc k) = length-append freeSlot (freeSlots k) ∙ rw (length-free, length-frees k) (omega arith)
-
-length-block : (slot : List ℕ) → length slot ≡ 12 → length (newBlock slot) ≡ block-size
-unfolding newBlock
-length-block slot n = simp (length-append, length-bytes, n, length-frees)
-
 frees-read : (t : List ℕ) (a k : ℕ) → Holds t a (freeSlots k) → (q : ℕ) → In q (rows a k) → tagAt t q ≡ free-tag
 unfolding freeSlots rows
 frees-read t a zero h q i = absurd i
 frees-read t a (suc k) h q (inl e) = rw e (free-reads t a (holds-left t a freeSlot (freeSlots k) h))
-frees-read t a (suc k) h q (inr i) = frees-read t (a + 12) k (holds-right t a 12 freeSlot (freeSlots k) length-free h) q i
+frees-read t a (suc k) h q (inr i) = frees-read t (a + slot-size) k (holds-right t a slot-size freeSlot (freeSlots k) length-free h) q i
 
 -- a block at e of which the first slot is written and the others are free, and that ends the chain
 record BlockReads (t : List ℕ) (e : ℕ) (slot : List ℕ) : Type 0 where
   count : slotCount t e ≡ block-slots
   next : nextBlock t e ≡ 0
   slot-held : Holds t (e + 6) slot
-  others : (q : ℕ) → In q (rows (e + 6 + 12) 15) → tagAt t q ≡ free-tag
+  others : (q : ℕ) → In q (rows (e + 6 + slot-size) 15) → tagAt t q ≡ free-tag
 
-block-reads : (t : List ℕ) (e : ℕ) (slot : List ℕ) → length slot ≡ 12 → Holds t e (newBlock slot) → BlockReads t e slot
+block-reads : (t : List ℕ) (e : ℕ) (slot : List ℕ) → length slot ≡ slot-size → Holds t e (newBlock slot) → BlockReads t e slot
 unfolding newBlock
 block-reads t e slot n h =
     let t₁ = bytes 2 block-slots in
@@ -79,7 +73,7 @@ block-reads t e slot n h =
     let h₃ = holds-left t e t₃ (freeSlots 15) h in
     let h₂ = holds-left t e t₂ slot h₃ in
     let h₁ = holds-left t e t₁ (bytes 4 0) h₂ in
-    let w : e + 6 + 12 ≡ e + 18 = omega arith in
+    let w : e + 6 + slot-size ≡ e + 18 = omega arith in
     record {
       count = be-holds 2 t e block-slots (omega arith) h₁;
       next = be-last 4 t e 2 t₁ 0 (length-bytes 2 block-slots) (omega arith) h₂;
@@ -87,7 +81,7 @@ block-reads t e slot n h =
       others = rw w (frees-read t (e + 18) 15 (holds-right t e 18 t₃ (freeSlots 15) (simp (length-append, length-bytes, n)) h));
     }
 
-rows-first : (p k q : ℕ) → In q (rows p (suc k)) → (q ≡ p) ⊎ In q (rows (p + 12) k)
+rows-first : (p k q : ℕ) → In q (rows p (suc k)) → (q ≡ p) ⊎ In q (rows (p + slot-size) k)
 unfolding rows
 rows-first p k q i = i
 
@@ -180,48 +174,41 @@ module _ (s bs : List ℕ) (k : Kept s bs) (t slot : List ℕ) (grown : length s
 
 -- ---- The edit
 
-module _ (s bs : List ℕ) (k : Kept s bs) (slot content : List ℕ) (twelve : length slot ≡ 12)
+module _ (s bs : List ℕ) (k : Kept s bs) (slot content : List ℕ) (n : length slot ≡ slot-size)
     (few : length bs < most-blocks) (room : length (slotPlaces s bs) + block-slots ≤ most-slots) where
-  edit-changed : let t = blockEdit s (lastOf 4 bs) (newBlock slot) content in
-      Changed s (lastOf 4 bs + 2) 4 (replicate 8 0) (newBlock slot ++ content) t × Holds t (lastOf 4 bs + 2) (bytes 4 (length s))
-  unfolding blockEdit
-  edit-changed =
-      let b = lastOf 4 bs in
-      rw (append-assoc (put s (b + 2) (bytes 4 (length s))) (newBlock slot) content)
-      (changed s (b + 2) 4 (bytes 4 (length s)) (replicate 8 0) (newBlock slot ++ content) (length-bytes 4 (length s))
-      (omega (arith, k .inside b (linked-last s 4 bs (k .linked)))) (k .short) refl)
-
   pub block-edit-writes : let t = blockEdit s (lastOf 4 bs) (newBlock slot) content in
       Writes s bs t (bs ++ (length s ∷ [])) (length s + 6) slot content (length s + block-size)
+  unfolding blockEdit
   block-edit-writes =
       let b = lastOf 4 bs in
       let t = blockEdit s b (newBlock slot) content in
-      let c = edit-changed .0 in
       let last = linked-last s 4 bs (k .linked) in
-      let inside : b + 2 + 4 ≤ length s = omega (arith, k .inside b last) in
-      let six : b + 2 + 4 ≡ b + 6 = omega arith in
+      let inside : b + 2 + link-size ≤ length s = omega (arith, k .inside b last) in
+      let made : Changed s (b + 2) link-size (newBlock slot ++ content) t × Holds t (b + 2) (bytes 4 (length s)) =
+      rw (append-assoc (put s (b + 2) (bytes 4 (length s))) (newBlock slot) content)
+      (changed s (b + 2) link-size (bytes 4 (length s)) (newBlock slot ++ content) (length-bytes 4 (length s)) inside (k .short) (omega arith)) in
+      let c = made .0 in
       let more : length (newBlock slot ++ content) ≡ block-size + length content =
-      length-append (newBlock slot) content ∙ rw (length-block slot twelve) in
+      length-append (newBlock slot) content ∙ rw (length-block slot n) in
       let grown : length s + block-size ≤ length t = omega (arith, c .size) in
-      let high : Same s t (b + 6) (length s) = rw six at (c .high) in
-      let link : nextBlock t b ≡ length s = be-holds 4 t (b + 2) (length s) (omega (arith, k .short)) (edit-changed .1) in
-      let new : BlockReads t (length s) slot = block-reads t (length s) slot twelve (holds-left t (length s) (newBlock slot) content (c .more)) in
+      let high : Same s t (b + 6) (length s) = λ j l u. c .high j (omega arith) u in
+      let link : nextBlock t b ≡ length s = be-holds 4 t (b + 2) (length s) (omega (arith, k .short)) (made .1) in
+      let new : BlockReads t (length s) slot = block-reads t (length s) slot n (holds-left t (length s) (newBlock slot) content (c .more)) in
       let same = places-are s bs k t slot grown (c .low) high link new few room in
       record {
         framed = block-framed s bs k t slot grown (c .low) high link new few room;
         here = rw same (in-right (length s + 6) (slotPlaces s bs) (rows (length s + 6) block-slots) (first-row (length s + 6) 15));
         slot-held = new .slot-held;
-        content-held = holds-right t (length s) block-size (newBlock slot) content (length-block slot twelve) (c .more);
+        content-held = holds-right t (length s) block-size (newBlock slot) content (length-block slot n) (c .more);
         size = omega (arith, c .size);
         after-header = omega (arith, k .headed .0);
         past = λ d i. elim (in-snoc d bs (length s) i) [
           | inl j ↦ omega (arith, count-same s bs k t slot grown (c .low) high link new few room d j, k .inside d j)
           | inr e ↦ rw (e, new .count) (omega arith)
         ];
-        back = λ before m.
-            changed-undone s (b + 2) 4 (replicate 8 0) (newBlock slot ++ content) t c inside (omega arith)
+        back = λ all before m.
+            changed-undone s (b + 2) link-size (newBlock slot ++ content) t c inside (inr refl) all
             (omega (arith, k .inside b last, k .after-header b last)) before
             (ap (λ a. a .number) (kept-opens t (bs ++ (length s ∷ [])) m))
-            (next-known t (length s + length (newBlock slot ++ content)) b (part s (b + 2) 4)
-            (rw (kept-blocks t (bs ++ (length s ∷ [])) m) (in-left b bs (length s ∷ []) last)) (length-part s (b + 2) 4 inside) (c .trail .old-held));
+            (next-known s t b (rw (kept-blocks t (bs ++ (length s ∷ [])) m) (in-left b bs (length s ∷ []) last)));
       }

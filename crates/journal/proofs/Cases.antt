@@ -2,20 +2,21 @@
 use mathlib.Core.Path.{_≡_, refl}
 use mathlib.Core.List.{map}
 use Rattle.wire.specs.Numbers.{be, bytes, put, part}
-use Rattle.directory.specs.Search.{must, any, first}
+use Rattle.wire.specs.Layouts.{read, pack}
+use Rattle.answer.specs.Search.{must, any, first}
 use Rattle.directory.specs.Blocks.{meets, meetsBlock, onDirectory, blockFault, chainFrom, chain, blocksOf}
 use Rattle.directory.specs.Slots.{rows, slotPlaces, slotsOf, liveAt, baseTag, sizeAt, clash, elementFault, slotFault}
 use Rattle.directory.specs.Opening.{slotsFrom, openChain, headed, openOf}
 use Rattle.directory.specs.Lookup.{has, find}
-use Rattle.directory.specs.Room.{lastOf}
-use Rattle.directory.specs.Cases.{four-bytes, A, Row, table as opening-cases}
-use Rattle.journal.specs.Outcome.{openedTo}
-use Rattle.journal.specs.Trailer.{trailer, carries, previousOf}
-use Rattle.journal.specs.Edit.{slotBytes, freeSlot, freeSlots, newBlock, dataOffset, dataSlot, slotEdit, blockEdit, fitted, badTag, tagged, addAt, addTo}
-use Rattle.journal.specs.Undo.{restored, placeKnown, opens, undoTo, undoOf}
-use Rattle.journal.specs.History.{edited, below, judged, pushed, popped, historyAfter, historyAfterAll, historyAnswers}
-use Rattle.journal.specs.Cases.{A-added, table}
+use Rattle.directory.specs.Links.{lastOf}
+use Rattle.directory.specs.Cases.{four-bytes, A, Row, openingCases}
+use Rattle.journal.specs.Outcomes.{passing, openedTo}
+use Rattle.journal.specs.Trailers.{trailerAt, trailerBytes, carries, previousOf, pastFirst, oldBytes}
+use Rattle.journal.specs.Edits.{slotBytes, freeSlot, freeSlots, newBlock, dataOffset, dataSlot, slotEdit, blockEdit, fitFault, fitted, badTag, tagged, addAt, addOf}
+use Rattle.journal.specs.Undos.{restored, placeKnown, known, opens, sound, undoTo, undoOf}
+use Rattle.journal.specs.History.{edited, below, decided, pushed, popped, historyAfter, historyAfterAll, historyAnswers}
+use Rattle.journal.specs.Cases.{A-added, markedCases}
 
-pub marked-cases : map (λ (r : Row). r .computed) table ≡ map (λ (r : Row). r .paper) table
-unfolding be bytes put part must any first meets meetsBlock onDirectory blockFault chainFrom chain blocksOf rows slotPlaces slotsOf liveAt baseTag sizeAt clash elementFault slotFault slotsFrom openChain headed openOf has find lastOf four-bytes A opening-cases openedTo trailer carries previousOf slotBytes freeSlot freeSlots newBlock dataOffset dataSlot slotEdit blockEdit fitted badTag tagged addAt addTo restored placeKnown opens undoTo undoOf edited below judged pushed popped historyAfter historyAfterAll historyAnswers A-added table
+pub marked-cases : map (λ (r : Row). r .computed) markedCases ≡ map (λ (r : Row). r .paper) markedCases
+unfolding be bytes put part read pack must any first meets meetsBlock onDirectory blockFault chainFrom chain blocksOf rows slotPlaces slotsOf liveAt baseTag sizeAt clash elementFault slotFault slotsFrom openChain headed openOf has find lastOf four-bytes A openingCases passing openedTo trailerAt trailerBytes carries previousOf pastFirst oldBytes slotBytes freeSlot freeSlots newBlock dataOffset dataSlot slotEdit blockEdit fitFault fitted badTag tagged addAt addOf restored placeKnown known opens sound undoTo undoOf edited below decided pushed popped historyAfter historyAfterAll historyAnswers A-added markedCases
 marked-cases = refl

@@ -6,18 +6,19 @@ use mathlib.Core.List.{List}
 use native.Mathlib.Omega.{arith}
 use lib.ListN.{length}
 use Rattle.wire.specs.Numbers.{part}
-use Rattle.directory.specs.Limits.{ABSENT}
-use Rattle.directory.specs.Answer.{refuse}
+use Rattle.answer.specs.Refusals.{ABSENT}
+use Rattle.answer.specs.Answer.{refuse}
 use Rattle.directory.specs.Slots.{tagAt, offsetAt, sizeAt, elementEnd, contentAt, slotsOf}
 use Rattle.directory.specs.Opening.{openOf}
 use Rattle.directory.specs.Lookup.{findOf}
-use Rattle.directory.specs.Rules.{In, Live}
+use Rattle.answer.specs.Search.{In}
+use Rattle.directory.specs.Rules.{Live}
 use Rattle.directory.specs.Named.{Named}
-use Rattle.directory.proofs.Tests.{same?, zero?}
+use Rattle.answer.proofs.Tests.{same?, zero?}
 use Rattle.directory.proofs.Rules.{opens-kept, kept-blocks}
 use Rattle.directory.proofs.Claims.{find-finds, find-found, find-absent}
-use Rattle.journal.specs.Outcome.{granted}
-use Rattle.journal.specs.Edit.{addTo, replaceIn, removeFrom}
+use Rattle.journal.specs.Outcomes.{granted}
+use Rattle.journal.specs.Edits.{addOf, replaceOf, removeOf}
 use Rattle.journal.specs.History.{Edit, add, replace, remove, edit, Typed, edited}
 use Rattle.journal.specs.EditRules.{ReadsBack, PairKept, tagOf, refOf, contentOf, OtherPair, lengthAfter}
 use Rattle.journal.proofs.Parts.{part-same}
@@ -95,18 +96,18 @@ reads-back s capacity e t f =
 
 -- an element that was added is found, under that tag itself, and reads as given
 pub added-reads : (s : List ℕ) (capacity tag ref : ℕ) (content t : List ℕ) → tag < 65536 → ref < 65536
-    → addTo s capacity tag ref content ≡ granted t → ReadsBack t tag ref content
+    → addOf s capacity tag ref content ≡ granted t → ReadsBack t tag ref content
 added-reads s capacity tag ref content t b₁ b₂ e =
     reads-back s capacity (add tag ref content) t (added s capacity tag ref content t b₁ b₂ e)
 
 -- and so is one that was replaced
 pub replaced-reads : (s : List ℕ) (capacity tag ref : ℕ) (content t : List ℕ) → tag < 65536 → ref < 65536
-    → replaceIn s capacity tag ref content ≡ granted t → ReadsBack t tag ref content
+    → replaceOf s capacity tag ref content ≡ granted t → ReadsBack t tag ref content
 replaced-reads s capacity tag ref content t b₁ b₂ e =
     reads-back s capacity (replace tag ref content) t (replaced s capacity tag ref content t b₁ b₂ e)
 
 -- an element that was removed is absent
-pub removed-absent : (s : List ℕ) (capacity tag ref : ℕ) (t : List ℕ) → removeFrom s capacity tag ref ≡ granted t
+pub removed-absent : (s : List ℕ) (capacity tag ref : ℕ) (t : List ℕ) → removeOf s capacity tag ref ≡ granted t
     → findOf t tag ref ≡ refuse 1 ABSENT 0
 removed-absent s capacity tag ref t e =
     let f = removed s capacity tag ref t e in

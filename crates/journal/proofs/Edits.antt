@@ -6,37 +6,39 @@ use mathlib.Core.Logic.{inl, inr}
 use mathlib.Core.List.{List, [], _∷_, _++_}
 use mathlib.Core.Bool.{not, _||_}
 use native.Mathlib.Omega.{arith}
-use lib.ListN.{length, take}
+use lib.ListN.{length, take, length-take}
 use lib.Dec.{leb, ltb}
 use borrow.Author.Tests.{leb-false, ltb-false, not-true}
 use Rattle.wire.specs.Numbers.{Bytes}
-use Rattle.directory.specs.Limits.{most-bytes, most-blocks, most-slots, free-tag, DIR-BIG, ABSENT}
-use Rattle.directory.specs.Search.{Hit, hit, miss}
+use Rattle.directory.specs.Limits.{most-bytes, most-blocks, most-slots, free-tag}
+use Rattle.answer.specs.Refusals.{DIR-BIG, ABSENT, PRESENT}
+use Rattle.answer.specs.Search.{Hit, hit, miss, In}
 use Rattle.directory.specs.Blocks.{blocksOf}
 use Rattle.directory.specs.Slots.{tagAt, liveAt, slotsOf}
 use Rattle.directory.specs.Opening.{openOf}
-use Rattle.directory.specs.Room.{lastOf}
+use Rattle.directory.specs.Links.{lastOf}
 use Rattle.directory.specs.Lookup.{find}
-use Rattle.directory.specs.Rules.{In, Live, Kept}
+use Rattle.directory.specs.Rules.{Live, Kept}
 use Rattle.directory.specs.Named.{Named}
-use Rattle.directory.proofs.Tests.{or-clear, picks, not-both}
-use Rattle.directory.proofs.Search.{first-hit}
+use Rattle.answer.proofs.Tests.{or-clear, picks, not-both}
+use Rattle.answer.proofs.Search.{first-hit}
 use Rattle.directory.proofs.Slots.{live-is}
 use Rattle.directory.proofs.Rules.{opens-kept, kept-blocks, kept-opens, chain-kept}
 use Rattle.directory.proofs.Named.{found-named, missed-named, named-once}
-use Rattle.journal.specs.Outcome.{Outcome, granted, refused}
-use Rattle.journal.specs.Trailer.{trailer-size}
-use Rattle.journal.specs.Edit.{PRESENT, block-slots, block-size, freeSlot, newBlock, dataSlot, slotEdit, blockEdit, fitted, addAt, addTo, replaceIn, removeFrom}
-use Rattle.journal.specs.Undo.{undoOf}
-use Rattle.journal.specs.Buffer.{putBack}
+use Rattle.journal.specs.Outcomes.{Outcome, granted, refused}
+use Rattle.journal.specs.Trailers.{trailer-size}
+use Rattle.journal.specs.Edits.{block-slots, block-size, firstFree, freeSlot, newBlock, dataSlot, slotEdit, blockEdit, fitted, addAt, addOf, replaceOf, removeOf}
+use Rattle.journal.specs.Undos.{undoOf}
+use Rattle.journal.specs.Buffers.{undoIn}
 use Rattle.journal.specs.History.{Edit, add, replace, remove, edit, Typed, edited}
-use Rattle.journal.specs.EditRules.{tagOf, refOf, contentOf, firstFree, addedAt, lengthAfter}
+use Rattle.journal.specs.EditRules.{tagOf, refOf, contentOf, addedAt, lengthAfter}
 use Rattle.journal.proofs.AllBytes.{bytes-free, bytes-data, bytes-slot-edit, bytes-block-edit}
 use Rattle.journal.proofs.Spacing.{slot-inside}
 use Rattle.journal.proofs.Frames.{Framed}
 use Rattle.journal.proofs.Outcomes.{refused-granted, hit-picks, Taken, tagged-granted, fitted-granted}
-use Rattle.journal.proofs.Undoing.{undone, undone-front}
-use Rattle.journal.proofs.Written.{length-free, length-data, free-reads, Filled, Writes, freed-kept, writes-filled, filled-kept}
+use Rattle.journal.proofs.Buffers.{undo-here}
+use Rattle.journal.proofs.Runs.{length-free, length-data}
+use Rattle.journal.proofs.Written.{free-reads, Filled, Writes, freed-kept, writes-filled, filled-kept}
 use Rattle.journal.proofs.SlotEdits.{slot-edit-writes}
 use Rattle.journal.proofs.BlockEdits.{block-edit-writes}
 
@@ -53,7 +55,7 @@ pub record Made (s : List ℕ) (capacity : ℕ) (e : Edit) (t : List ℕ) : Type
   pub fits : length t ≤ capacity
   pub size : length t ≡ lengthAfter s e
   pub bytes : Bytes s → Bytes (contentOf e) → Bytes t
-  pub back : undoOf t ≡ granted s
+  pub back : Bytes s → undoOf t ≡ granted s
   pub before : In slot (slotsOf s) → Live s slot → Named s (tagOf e) (refOf e) slot
   pub only : (p : ℕ) → Named s (tagOf e) (refOf e) p → p ≡ slot
   pub after : Live t slot → Named t (tagOf e) (refOf e) slot
@@ -71,61 +73,51 @@ pub record Frees (s : List ℕ) (capacity : ℕ) (e : Edit) (t : List ℕ) : Typ
 
 module _ (s : List ℕ) (capacity : ℕ) (e : Edit) (u t cs : List ℕ) (q : ℕ) (opens : openOf s .number ≡ 0) (granting : fitted capacity u ≡ granted t)
     (before : In q (slotsOf s) → Live s q → Named s (tagOf e) (refOf e) q) (only : (p : ℕ) → Named s (tagOf e) (refOf e) p → p ≡ q) where
+  makes : (slot content : List ℕ) (at : ℕ) → Writes s (blocksOf s) u cs q slot content at → Kept u cs → lengthAfter s e ≡ at + length content + trailer-size
+      → (Bytes s → Bytes (contentOf e) → Bytes u) → (Live u q → Named u (tagOf e) (refOf e) q) → Made s capacity e u
+  makes slot content at w kept size bytes after =
+      record {
+        blocks = cs;
+        slot = q;
+        opened = opens;
+        framed = w .framed;
+        kept = kept;
+        fits = fitted-granted capacity u t granting .1;
+        size = w .size ∙ sym size;
+        bytes = bytes;
+        back = λ all. w .back all opens kept;
+        before = before;
+        only = only;
+        after = after;
+      }
+
   fills : (at : ℕ) → Writes s (blocksOf s) u cs q (dataSlot (tagOf e) (refOf e) (contentOf e) at) (contentOf e) at → Taken (tagOf e)
       → tagOf e < 65536 → refOf e < 65536 → lengthAfter s e ≡ at + length (contentOf e) + trailer-size → (Bytes s → Bytes (contentOf e) → Bytes u)
       → Fills s capacity e t
-  unfolding slotsOf
+  unfolding slotsOf makes
   fills at w taken b₁ b₂ size bytes =
       let g = fitted-granted capacity u t granting in
       let f = writes-filled s (blocksOf s) u cs q (tagOf e) (refOf e) (contentOf e) at w (g .0) taken b₁ b₂ in
       let kept = filled-kept s (blocksOf s) u cs q (tagOf e) (refOf e) (contentOf e) at w (g .0) taken b₁ b₂ (opens-kept s opens)
       (λ p i n l x r. n (only p (record { slot = i; live = l; tag = x ∙ sym (taken .base); reference = r }))) in
       rw (← g .2) (record {
-        made = record {
-          blocks = cs;
-          slot = q;
-          opened = opens;
-          framed = w .framed;
-          kept = kept;
-          fits = g .1;
-          size = w .size ∙ sym size;
-          bytes = bytes;
-          back = w .back opens kept;
-          before = before;
-          only = only;
-          after = λ l. record {
-            slot = rw (kept-blocks u cs kept) (w .here);
-            live = l;
-            tag = f .base-is ∙ sym (taken .base);
-            reference = f .ref-is;
-          };
-        };
+        made = makes _ _ at w kept size bytes (λ l. record {
+          slot = rw (kept-blocks u cs kept) (w .here);
+          live = l;
+          tag = f .base-is ∙ sym (taken .base);
+          reference = f .ref-is;
+        });
         at = at;
         filled = f;
       })
 
-  frees : Writes s (blocksOf s) u cs q freeSlot [] (length s) → lengthAfter s e ≡ length s + trailer-size → (Bytes s → Bytes u) → Frees s capacity e t
+  frees : Writes s (blocksOf s) u cs q freeSlot [] (length s) → lengthAfter s e ≡ length s + 0 + trailer-size → (Bytes s → Bytes u) → Frees s capacity e t
+  unfolding makes
   frees w size bytes =
       let g = fitted-granted capacity u t granting in
       let free = free-reads u q (w .slot-held) in
       let kept = freed-kept s (blocksOf s) u cs q (length s) (opens-kept s opens) w (g .0) in
-      rw (← g .2) (record {
-        made = record {
-          blocks = cs;
-          slot = q;
-          opened = opens;
-          framed = w .framed;
-          kept = kept;
-          fits = g .1;
-          size = omega (arith, w .size);
-          bytes = λ h c. bytes h;
-          back = w .back opens kept;
-          before = before;
-          only = only;
-          after = λ l. absurd (l free);
-        };
-        free = free;
-      })
+      rw (← g .2) (record { made = makes _ _ (length s) w kept size (λ h c. bytes h) (λ l. absurd (l free)); free = free })
 
 -- ---- Each edit
 
@@ -142,9 +134,9 @@ fill-slot s capacity e t q opens taken b₁ b₂ i before only size g =
     (slot-edit-writes s (blocksOf s) (opens-kept s opens) q i slot content (length-data (tagOf e) (refOf e) content (length s))) taken b₁ b₂ size
     (λ h c. bytes-slot-edit s q slot content h (bytes-data (tagOf e) (refOf e) content (length s)) c)
 
-pub replaced : (s : List ℕ) (capacity tag ref : ℕ) (content t : List ℕ) → tag < 65536 → ref < 65536 → replaceIn s capacity tag ref content ≡ granted t
+pub replaced : (s : List ℕ) (capacity tag ref : ℕ) (content t : List ℕ) → tag < 65536 → ref < 65536 → replaceOf s capacity tag ref content ≡ granted t
     → Fills s capacity (replace tag ref content) t
-unfolding replaceIn lengthAfter
+unfolding replaceOf lengthAfter
 replaced s capacity tag ref content t b₁ b₂ e =
     let g = tagged-granted s tag _ t e in
     let make : ℕ → Outcome = λ p. fitted capacity (slotEdit s p (dataSlot tag ref content (length s)) content) in
@@ -156,8 +148,8 @@ replaced s capacity tag ref content t b₁ b₂ e =
           (λ p m. named-once s tag ref p (h .0) (g .0) m n) refl (h .2)
     ]
 
-pub removed : (s : List ℕ) (capacity tag ref : ℕ) (t : List ℕ) → removeFrom s capacity tag ref ≡ granted t → Frees s capacity (remove tag ref) t
-unfolding removeFrom lengthAfter slotsOf
+pub removed : (s : List ℕ) (capacity tag ref : ℕ) (t : List ℕ) → removeOf s capacity tag ref ≡ granted t → Frees s capacity (remove tag ref) t
+unfolding removeOf lengthAfter slotsOf
 removed s capacity tag ref t e =
     let g = tagged-granted s tag _ t e in
     let make : ℕ → Outcome = λ p. fitted capacity (slotEdit s p freeSlot []) in
@@ -168,7 +160,7 @@ removed s capacity tag ref t e =
           let n = found-named s tag ref q (h .1) in
           frees s capacity (remove tag ref) (slotEdit s q freeSlot []) t (blocksOf s) q (g .0) (h .2) (λ i l. n)
           (λ p m. named-once s tag ref p q (g .0) m n)
-          (slot-edit-writes s (blocksOf s) (opens-kept s (g .0)) q (n .slot) freeSlot [] length-free) refl
+          (slot-edit-writes s (blocksOf s) (opens-kept s (g .0)) q (n .slot) freeSlot [] length-free) (omega arith)
           (λ x. bytes-slot-edit s q freeSlot [] x bytes-free (λ i. omega arith))
     ]
 
@@ -206,9 +198,9 @@ add-at s capacity tag ref content t (hit q) i opens taken b₁ b₂ f g =
     fill-slot s capacity (add tag ref content) t q opens taken b₁ b₂ (h .0)
     (λ l. absurd (not-both (liveAt s q) (not-true _ (h .1)) (live-is s q .1 l))) (λ p m. absurd (missed-named s tag ref p f m)) (rw i) g
 
-pub added : (s : List ℕ) (capacity tag ref : ℕ) (content t : List ℕ) → tag < 65536 → ref < 65536 → addTo s capacity tag ref content ≡ granted t
+pub added : (s : List ℕ) (capacity tag ref : ℕ) (content t : List ℕ) → tag < 65536 → ref < 65536 → addOf s capacity tag ref content ≡ granted t
     → Fills s capacity (add tag ref content) t
-unfolding addTo
+unfolding addOf
 added s capacity tag ref content t b₁ b₂ e =
     let g = tagged-granted s tag _ t e in
     let make = addAt s capacity tag ref content (firstFree s) in
@@ -235,7 +227,7 @@ pub record Undoes (s : List ℕ) (capacity : ℕ) (t : List ℕ) : Type 0 where
   pub short : length t ≤ most-bytes
   pub fits : length t ≤ capacity
   pub back : undoOf t ≡ granted s
-  pub front : (buffer : List ℕ) → take (length t) buffer ≡ t → take (length s) (putBack buffer (length t) (granted s)) ≡ s
+  pub front : (buffer : List ℕ) → take (length t) buffer ≡ t → undoIn buffer (length t) ≡ granted s
 
 typed-content : (e : Edit) → Typed (edit e) → Bytes (contentOf e)
 typed-content (add tag ref content) y = y .2
@@ -252,6 +244,6 @@ undo-of-edit s capacity e t h y g =
       bytes = m .bytes h (typed-content e y);
       short = m .kept .short;
       fits = m .fits;
-      back = m .back;
-      front = undone-front t s (undone t s (m .back));
+      back = m .back h;
+      front = λ buffer e. undo-here buffer (length t) (omega (arith, ap length e, length-take (length t) buffer)) ∙ rw e (m .back h);
     }

@@ -13,9 +13,11 @@ use Rattle.wire.proofs.Numbers.{Same, be-same}
 use Rattle.directory.specs.Limits.{most-bytes, lone-tag}
 use Rattle.directory.specs.Blocks.{slotCount, blockEnd}
 use Rattle.directory.specs.Slots.{tagAt, refAt, offsetAt, baseTag, sizeAt, slotPlaces}
-use Rattle.directory.specs.Rules.{In, Apart, Live, ElementKept, Clashing, Kept}
-use Rattle.directory.proofs.Tests.{same?, pairwise-in}
+use Rattle.answer.specs.Search.{In}
+use Rattle.directory.specs.Rules.{Apart, Live, ElementKept, Clashing, Kept}
+use Rattle.answer.proofs.Tests.{same?, pairwise-in}
 use Rattle.directory.proofs.Rules.{Unclashing, clashing-sym, BlocksKept, ChainKept}
+use Rattle.journal.specs.Trailers.{slot-size}
 use Rattle.journal.proofs.Spacing.{pairwise-all, pairwise-map, slots-distinct}
 
 -- ---- What reads the same
@@ -26,7 +28,7 @@ pub record SlotSame (s t : List ℕ) (p : ℕ) : Type 0 where
   pub offset : offsetAt t p ≡ offsetAt s p
   pub size : sizeAt t p ≡ sizeAt s p
 
-pub slot-same : (s t : List ℕ) (p : ℕ) → Same s t p (p + 12) → SlotSame s t p
+pub slot-same : (s t : List ℕ) (p : ℕ) → Same s t p (p + slot-size) → SlotSame s t p
 unfolding sizeAt
 slot-same s t p h =
     let a = be-same 2 s t p (λ i l u. h i l (omega arith)) in

@@ -1,40 +1,24 @@
 -- The history claim: through every list of calls the buffer follows the history, answer by answer and byte by byte. Assumes nothing.
-use Prim.Native.Nat.{ℕ, _+_, _-_, _≤_}
+use Prim.Native.Nat.{ℕ, _≤_}
 use mathlib.Core.Path.{_≡_, refl, sym, ap, ap₂, _∙_}
 use mathlib.Core.List.{List, [], _∷_, _++_}
 use native.Mathlib.Omega.{arith}
 use lib.ListN.{length, take, drop, length-append, length-drop}
 use lib.Seq.{length-take-le, take-append-seam}
-use borrow.Author.Tests.{le-leb}
 use Rattle.wire.specs.Numbers.{Bytes}
-use Rattle.wire.proofs.Numbers.{length-put, bytes-take, bytes-drop, bytes-part}
-use Rattle.directory.specs.Answer.{Answer}
+use Rattle.wire.proofs.Numbers.{bytes-take, bytes-drop}
+use Rattle.answer.specs.Answer.{Answer}
+use Rattle.answer.specs.Lent.{laidOver}
 use Rattle.directory.specs.Opening.{openOf}
-use Rattle.journal.specs.Outcome.{Outcome, granted, refused, outcomeAnswer}
-use Rattle.journal.specs.Trailer.{trailer-size}
-use Rattle.journal.specs.Undo.{placeField, alteredField, oldField, undoOf}
-use Rattle.journal.specs.Buffer.{imageIn, addIn, replaceInBuffer, removeIn, undoIn, laidOver, putBack}
-use Rattle.journal.specs.History.{Edit, add, replace, remove, Call, edit, undo, Typed, AllTyped, History, started, edited, below, judged, pushed, popped, historyAfter, historyAfterAll, historyAnswers, State, editOutcome, outcome, sizeAfter, stateAfter, stateAfterAll, answers, Agrees}
-use Rattle.journal.proofs.AllBytes.{bytes-append, bytes-put}
-use Rattle.journal.proofs.Undoing.{undone, undone-length, undone-front}
+use Rattle.journal.specs.Outcomes.{Outcome, granted, refused, outcomeAnswer}
+use Rattle.journal.specs.Edits.{addOf, replaceOf, removeOf}
+use Rattle.journal.specs.Undos.{undoOf}
+use Rattle.journal.specs.Buffers.{imageIn, addIn, replaceIn, removeIn, undoIn}
+use Rattle.journal.specs.History.{Edit, add, replace, remove, Call, edit, undo, Typed, AllTyped, History, started, edited, below, decided, pushed, popped, historyAfter, historyAfterAll, historyAnswers, State, outcome, sizeAfter, left, stateAfter, stateAfterAll, answers, Agrees}
+use Rattle.journal.proofs.AllBytes.{bytes-append, bytes-restored}
+use Rattle.journal.proofs.Undos.{changeOf, undone, undone-length}
 use Rattle.journal.proofs.Edits.{undo-of-edit}
-
--- ---- The image in the buffer
-
-image-in : (buffer : List ℕ) (n : ℕ) (o : Outcome) → n ≤ length buffer → imageIn buffer n o ≡ o
-unfolding imageIn
-image-in buffer n o h = rw (imageIn, le-leb n (length buffer) h)
-
-module _ (m : State) (inside : m .size ≤ length (m .buffer)) where
-  edit-judged : (e : Edit) → editOutcome e m ≡ edited (length (m .buffer)) e (take (m .size) (m .buffer))
-  unfolding editOutcome edited addIn replaceInBuffer removeIn
-  edit-judged (add tag ref content) = image-in (m .buffer) (m .size) _ inside
-  edit-judged (replace tag ref content) = image-in (m .buffer) (m .size) _ inside
-  edit-judged (remove tag ref) = image-in (m .buffer) (m .size) _ inside
-
-  undo-judged : undoIn (m .buffer) (m .size) ≡ undoOf (take (m .size) (m .buffer))
-  unfolding undoIn
-  undo-judged = image-in (m .buffer) (m .size) _ inside
+use Rattle.journal.proofs.Buffers.{laid-kept, inside}
 
 -- ---- What holds after every call
 
@@ -52,72 +36,76 @@ pub record Follows (capacity : ℕ) (m : State) (h : History) : Type 0 where
   pub opens : openOf (h .top) .number ≡ 0
   pub stacked : Stacked (h .top) (h .under)
 
+pub left-refused : (m : State) (number place : ℕ) → left (refused number place) m ≡ m
+unfolding left sizeAfter
+left-refused m number place = rw (laid-kept number place (m .buffer))
+
 module _ (capacity : ℕ) (m : State) (h : History) (f : Follows capacity m h) where
   top-bytes : Bytes (h .top)
   top-bytes = rw (f .agrees .bytes) at (bytes-take (m .size) (m .buffer) (f .bytes))
 
+  -- a file laid over the front of the buffer
+  laid-keeps : (t : List ℕ) (files : List (List ℕ)) → Bytes t → length t ≤ capacity → openOf t .number ≡ 0 → Stacked t files
+      → Follows capacity (left (granted t) m) (record { top = t; under = files })
+  unfolding left laidOver sizeAfter
+  laid-keeps t files all fits opens stacked =
+      let rest = drop (length t) (m .buffer) in
+      let n : length (t ++ rest) ≡ length (m .buffer) = length-append t rest ∙ rw length-drop (omega (arith, f .whole)) in
+      record {
+        whole = n ∙ f .whole;
+        bytes = bytes-append t rest all (bytes-drop (length t) (m .buffer) (f .bytes));
+        inside = omega (arith, f .whole);
+        agrees = record { size = refl; bytes = take-append-seam t rest };
+        opens = opens;
+        stacked = stacked;
+      }
+
   -- an edit
-  edit-keeps : (e : Edit) → Typed (edit e) → (o : Outcome) → edited capacity e (h .top) ≡ o
-      → Follows capacity (record { buffer = laidOver (m .buffer) o; size = sizeAfter (m .size) o }) (pushed h o)
-  unfolding laidOver sizeAfter pushed
+  edit-keeps : (e : Edit) → Typed (edit e) → (o : Outcome) → edited capacity e (h .top) ≡ o → Follows capacity (left o m) (pushed h o)
+  unfolding pushed
   edit-keeps e y (granted t) q =
       let u = undo-of-edit (h .top) capacity e t top-bytes y q in
-      let rest = drop (length t) (m .buffer) in
-      let n : length (t ++ rest) ≡ length (m .buffer) = length-append t rest ∙ rw length-drop (omega (arith, u .fits, f .whole)) in
-      record {
-        whole = n ∙ f .whole;
-        bytes = bytes-append t rest (u .bytes) (bytes-drop (length t) (m .buffer) (f .bytes));
-        inside = omega (arith, u .fits, f .whole);
-        agrees = record { size = refl; bytes = take-append-seam t rest };
-        opens = u .opens;
-        stacked = (u .back, f .stacked);
-      }
-  edit-keeps e y (refused number place) q = f
-
-  -- the old bytes put back
-  back-keeps : (t : List ℕ) (files : List (List ℕ)) → undoOf (h .top) ≡ granted t → Stacked t files
-      → Follows capacity (record { buffer = putBack (m .buffer) (m .size) (granted t); size = length t }) (record { top = t; under = files })
-  unfolding putBack
-  back-keeps t files q below =
-      let u = undone (h .top) t q in
-      let s = take (m .size) (m .buffer) in
-      let a = m .size - trailer-size in
-      let v = oldField s a (alteredField s a) in
-      let n : length (putBack (m .buffer) (m .size) (granted t)) ≡ length (m .buffer) = length-put (m .buffer) (placeField s a) v in
-      let front : take (m .size) (m .buffer) ≡ h .top → take (length t) (putBack (m .buffer) (m .size) (granted t)) ≡ t =
-      rw (f .agrees .size) (undone-front (h .top) t u (m .buffer)) in
-      record {
-        whole = n ∙ f .whole;
-        bytes =
-            bytes-put (m .buffer) (placeField s a) v (f .bytes)
-            (bytes-part s (a + 8) (alteredField s a) (bytes-take (m .size) (m .buffer) (f .bytes)));
-        inside = omega (arith, f .inside, f .agrees .size, undone-length (h .top) t u, u .restores .shorter);
-        agrees = record { size = refl; bytes = front (f .agrees .bytes) };
-        opens = u .restores .opens;
-        stacked = below;
-      }
+      laid-keeps t (h .top ∷ h .under) (u .bytes) (u .fits) (u .opens) (u .back, f .stacked)
+  edit-keeps e y (refused number place) q = rw (left-refused m number place) f
 
   -- undo, with the files under the top one
+  back-keeps : (t : List ℕ) (files : List (List ℕ)) → undoOf (h .top) ≡ granted t → Stacked t files
+      → Follows capacity (left (granted t) m) (record { top = t; under = files })
+  back-keeps t files q stacked =
+      let u = undone (h .top) t q in
+      laid-keeps t files (rw (u .is) at (bytes-restored (h .top) (changeOf (h .top)) top-bytes))
+      (omega (arith, undone-length (h .top) t u, f .inside, f .whole, f .agrees .size)) (u .opens) stacked
+
   undo-keeps : (files : List (List ℕ)) → Stacked (h .top) files → (o : Outcome) → undoOf (h .top) ≡ o
-      → (o ≡ below (h .top) files)
-      × Follows capacity (record { buffer = putBack (m .buffer) (m .size) o; size = sizeAfter (m .size) o }) (popped h (below (h .top) files) files)
-  unfolding below popped sizeAfter putBack
+      → (o ≡ below (h .top) files) × Follows capacity (left o m) (popped h (below (h .top) files) files)
+  unfolding below popped
   undo-keeps [] s (granted t) q = (sym q, rw q (back-keeps t [] q tt))
-  undo-keeps [] s (refused number place) q = (sym q, rw q f)
+  undo-keeps [] s (refused number place) q = (sym q, rw (q, left-refused m number place) f)
   undo-keeps (file ∷ files) s o q =
       let e : o ≡ granted file = sym q ∙ s .0 in
       rw e (refl, back-keeps file files (s .0) (s .1))
 
-  -- each call is judged as the history judges it, and keeps all this
+  -- the image in the buffer is the top file
+  here : (o : List ℕ → Outcome) → imageIn (m .buffer) (m .size) (o (take (m .size) (m .buffer))) ≡ o (h .top)
+  here o = inside (m .buffer) (m .size) _ (f .inside) ∙ ap o (f .agrees .bytes)
+
+  edit-decided : (e : Edit) → outcome (edit e) m ≡ edited capacity e (h .top)
+  unfolding outcome edited addIn replaceIn removeIn
+  edit-decided (add tag ref content) = rw (← f .whole) (here (λ s. addOf s (length (m .buffer)) tag ref content))
+  edit-decided (replace tag ref content) = rw (← f .whole) (here (λ s. replaceOf s (length (m .buffer)) tag ref content))
+  edit-decided (remove tag ref) = rw (← f .whole) (here (λ s. removeOf s (length (m .buffer)) tag ref))
+
+  undo-decided : outcome undo m ≡ undoOf (h .top)
+  unfolding outcome undoIn
+  undo-decided = here undoOf
+
+  -- each call is decided as the history decides it, and keeps all this
   pub step-keeps : (c : Call) → Typed c
-      → (outcome c m ≡ judged capacity c h) × Follows capacity (stateAfter c m) (historyAfter capacity c h)
-  unfolding outcome judged stateAfter historyAfter
-  step-keeps (edit e) y =
-      let q : editOutcome e m ≡ edited capacity e (h .top) = edit-judged m (f .inside) e ∙ rw (f .whole, f .agrees .bytes) in
-      (q, rw q (edit-keeps e y (edited capacity e (h .top)) refl))
+      → (outcome c m ≡ decided capacity c h) × Follows capacity (stateAfter c m) (historyAfter capacity c h)
+  unfolding decided stateAfter historyAfter
+  step-keeps (edit e) y = rw (edit-decided e) (refl, edit-keeps e y (edited capacity e (h .top)) refl)
   step-keeps undo y =
-      let q : undoIn (m .buffer) (m .size) ≡ undoOf (h .top) = undo-judged m (f .inside) ∙ rw (f .agrees .bytes) in
-      rw q (undo-keeps (h .under) (f .stacked) (undoOf (h .top)) refl)
+      rw undo-decided (undo-keeps (h .under) (f .stacked) (undoOf (h .top)) refl)
 
 -- ---- Through every list of calls
 

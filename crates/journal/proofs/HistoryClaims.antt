@@ -5,88 +5,76 @@ use mathlib.Core.List.{List, [], _∷_}
 use lib.ListN.{length, take}
 use Rattle.wire.specs.Numbers.{Bytes}
 use Rattle.directory.specs.Opening.{openOf}
-use Rattle.journal.specs.Outcome.{granted, refused, outcomeAnswer}
-use Rattle.journal.specs.Undo.{undoOf}
-use Rattle.journal.specs.Buffer.{laidOver, putBack}
-use Rattle.journal.specs.History.{Call, edit, undo, Typed, AllTyped, History, started, below, judged, popped, historyAfter, historyAfterAll, State, outcome, sizeAfter, stateAfter, stateAfterAll, Agrees}
+use Rattle.journal.specs.Outcomes.{granted, refused, outcomeAnswer}
+use Rattle.journal.specs.Undos.{undoOf}
+use Rattle.journal.specs.History.{Call, undo, Typed, AllTyped, History, started, below, decided, popped, historyAfter, historyAfterAll, State, outcome, stateAfter, stateAfterAll, Agrees}
 use Rattle.journal.proofs.Outcomes.{refused-granted}
-use Rattle.journal.proofs.History.{step-keeps, reached}
+use Rattle.journal.proofs.History.{Follows, left-refused, step-keeps, reached}
 
 -- ---- Undo on a history
 
 -- of two files or more
 undo-pops : (capacity : ℕ) (h : History) (file : List ℕ) (files : List (List ℕ)) → h .under ≡ file ∷ files
-    → (judged capacity undo h ≡ granted file) × (historyAfter capacity undo h ≡ record { top = file; under = files })
-unfolding judged historyAfter below popped
+    → (decided capacity undo h ≡ granted file) × (historyAfter capacity undo h ≡ record { top = file; under = files })
+unfolding decided historyAfter below popped
 undo-pops capacity h file files e = (rw e, rw e)
 
 -- of one file
 undo-alone : (capacity : ℕ) (h : History) → h .under ≡ []
-    → (judged capacity undo h ≡ undoOf (h .top)) × ((file : List ℕ) → undoOf (h .top) ≡ granted file → historyAfter capacity undo h ≡ started file)
-unfolding judged historyAfter below popped
+    → (decided capacity undo h ≡ undoOf (h .top)) × ((file : List ℕ) → undoOf (h .top) ≡ granted file → historyAfter capacity undo h ≡ started file)
+unfolding decided historyAfter below popped
 undo-alone capacity h e = (rw e, λ file q. rw (e, q))
 
--- ---- After any calls on a file that opens
+-- ---- After any calls on a file that opens: the state m and the history h
 
 module _ (buffer : List ℕ) (n : ℕ) (bytes : Bytes buffer) (inside : n ≤ length buffer) (opens : openOf (take n buffer) .number ≡ 0)
     (calls : List Call) (typed : AllTyped calls) where
+  abbrev m : State
+  m = stateAfterAll calls (record { buffer = buffer; size = n })
+
+  abbrev h : History
+  h = historyAfterAll (length buffer) calls (started (take n buffer))
+
+  follows : Follows (length buffer) m h
+  follows = reached buffer n bytes inside opens calls typed
+
   -- whatever is called next, its answer is the history's, and then the length and the bytes are again the top file's
-  pub every-call : let m = stateAfterAll calls (record { buffer = buffer; size = n }) in
-      let h = historyAfterAll (length buffer) calls (started (take n buffer)) in
-      (c : Call) → Typed c → (outcomeAnswer (outcome c m) ≡ outcomeAnswer (judged (length buffer) c h))
+  pub every-call : (c : Call) → Typed c → (outcomeAnswer (outcome c m) ≡ outcomeAnswer (decided (length buffer) c h))
       × Agrees (stateAfter c m) (historyAfter (length buffer) c h)
-  every-call c y =
-      let m = stateAfterAll calls (record { buffer = buffer; size = n }) in
-      let h = historyAfterAll (length buffer) calls (started (take n buffer)) in
-      let k = step-keeps (length buffer) m h (reached buffer n bytes inside opens calls typed) c y in
-      (ap outcomeAnswer (k .0), k .1 .agrees)
+  every-call c y = let k = step-keeps (length buffer) m h follows c y in (ap outcomeAnswer (k .0), k .1 .agrees)
 
   -- with an edit not yet cancelled, undo is granted, and the file below the top is then the buffer's
-  pub undo-cancels : let m = stateAfterAll calls (record { buffer = buffer; size = n }) in
-      let h = historyAfterAll (length buffer) calls (started (take n buffer)) in
-      (file : List ℕ) (files : List (List ℕ)) → h .under ≡ file ∷ files
+  pub undo-cancels : (file : List ℕ) (files : List (List ℕ)) → h .under ≡ file ∷ files
       → (outcome undo m ≡ granted file) × Agrees (stateAfter undo m) (record { top = file; under = files })
   undo-cancels file files e =
-      let m = stateAfterAll calls (record { buffer = buffer; size = n }) in
-      let h = historyAfterAll (length buffer) calls (started (take n buffer)) in
-      let k = step-keeps (length buffer) m h (reached buffer n bytes inside opens calls typed) undo tt in
+      let k = step-keeps (length buffer) m h follows undo tt in
       let p = undo-pops (length buffer) h file files e in
       (k .0 ∙ p .0, rw (p .1) at (k .1 .agrees))
 
   -- with an edit not yet cancelled, undo is never refused
-  pub undo-never-refused : let m = stateAfterAll calls (record { buffer = buffer; size = n }) in
-      let h = historyAfterAll (length buffer) calls (started (take n buffer)) in
-      (h .under ≡ [] → ⊥) → (number place : ℕ) → outcome undo m ≡ refused number place → ⊥
+  pub undo-never-refused : (h .under ≡ [] → ⊥) → (number place : ℕ) → outcome undo m ≡ refused number place → ⊥
   undo-never-refused some number place e = go (h .under) refl
     where
-      h : History
-      h = historyAfterAll (length buffer) calls (started (take n buffer))
-
       go : (files : List (List ℕ)) → h .under ≡ files → ⊥
       go [] q = some q
       go (file ∷ files) q = refused-granted number place file (sym e ∙ undo-cancels file files q .0)
 
   -- with one file, undo answers what that file's trailer says, and a file that it restores becomes the only one
-  pub undo-of-start : let m = stateAfterAll calls (record { buffer = buffer; size = n }) in
-      let h = historyAfterAll (length buffer) calls (started (take n buffer)) in
-      h .under ≡ [] → (outcome undo m ≡ undoOf (h .top))
+  pub undo-of-start : h .under ≡ [] → (outcome undo m ≡ undoOf (h .top))
       × ((file : List ℕ) → undoOf (h .top) ≡ granted file
       → (historyAfter (length buffer) undo h ≡ started file) × Agrees (stateAfter undo m) (started file))
   undo-of-start e =
-      let m = stateAfterAll calls (record { buffer = buffer; size = n }) in
-      let h = historyAfterAll (length buffer) calls (started (take n buffer)) in
-      let k = step-keeps (length buffer) m h (reached buffer n bytes inside opens calls typed) undo tt in
+      let k = step-keeps (length buffer) m h follows undo tt in
       let p = undo-alone (length buffer) h e in
       (k .0 ∙ p .0, λ file q. (p .1 file q, rw (p .1 file q) at (k .1 .agrees)))
 
   -- the file in the buffer opens
-  pub stays-open : let m = stateAfterAll calls (record { buffer = buffer; size = n }) in openOf (take (m .size) (m .buffer)) .number ≡ 0
-  stays-open = let f = reached buffer n bytes inside opens calls typed in rw (f .agrees .bytes) (f .opens)
+  pub stays-open : openOf (take (m .size) (m .buffer)) .number ≡ 0
+  stays-open = rw (follows .agrees .bytes) (follows .opens)
 
 -- ---- In any state
 
 -- a refused call leaves the buffer and the size as they were
 pub refusal-alters-nothing : (m : State) (c : Call) (number place : ℕ) → outcome c m ≡ refused number place → stateAfter c m ≡ m
-unfolding outcome stateAfter laidOver putBack sizeAfter
-refusal-alters-nothing m (edit e) number place r = rw r
-refusal-alters-nothing m undo number place r = rw r
+unfolding stateAfter
+refusal-alters-nothing m c number place r = rw r (left-refused m number place)

@@ -1,21 +1,33 @@
--- Outcomes taken apart: what it tells that a call was granted. Assumes nothing.
-use Prim.Native.Nat.{ℕ, _≤_}
-use mathlib.Core.Path.{_≡_, refl}
+-- The laws of outcomes: a refusal or what the call goes on to, what it tells that a call was granted, and an edit's tag and room. Assumes nothing.
+use Prim.Native.Nat.{ℕ, _<_, _≤_}
+use mathlib.Core.Path.{_≡_, refl, sym, ap, _∙_}
 use mathlib.Core.Logic.{_↔_, _⊎_, inl, inr}
 use mathlib.Core.List.{List}
 use mathlib.Core.Bool.{true, false, _&&_, _||_}
 use native.Mathlib.Omega.{arith}
 use lib.ListN.{length}
 use lib.Dec.{leb, eqb}
-use borrow.Author.Tests.{leb-true, leb-false, eqb-true, eqb-false, eq-eqb}
-use Rattle.directory.specs.Limits.{most-bytes, free-tag, lone-tag, extended-first, extended-last, extended-free, TOO-LONG, BAD-TAG}
-use Rattle.directory.specs.Search.{Hit, hit, miss}
+use borrow.Author.Tests.{leb-true, leb-false, le-leb, lt-leb, eqb-true, eqb-false, eq-eqb, ne-eqb}
+use Rattle.answer.specs.Refusals.{TOO-LONG, BAD-TAG, NO-ROOM}
+use Rattle.answer.specs.Answer.{refuse}
+use Rattle.answer.specs.Search.{Hit, hit, miss}
+use Rattle.answer.specs.declared.Refusal.{Refusal}
+use Rattle.answer.proofs.Tests.{or-clear, and-fails, on-false, picks, zero?, same?}
+use Rattle.answer.proofs.Search.{must-holds, must-fails, passed}
+use Rattle.directory.specs.Limits.{most-bytes, free-tag, lone-tag, extended-first, extended-last, extended-free}
 use Rattle.directory.specs.Slots.{baseTag}
-use Rattle.directory.specs.Opening.{openOf}
-use Rattle.directory.proofs.Tests.{or-clear, and-fails, on-false, picks, zero?}
-use Rattle.journal.specs.Outcome.{Outcome, granted, refused, openedTo}
-use Rattle.journal.specs.Undo.{opens}
-use Rattle.journal.specs.Edit.{NO-ROOM, fitted, badTag, tagged}
+use Rattle.directory.specs.Opening.{openedNumbers, refusalOf, openOf}
+use Rattle.directory.specs.Lookup.{hitFound, find, findIn}
+use Rattle.directory.specs.Steps.Opens.{Opens}
+use Rattle.directory.specs.declared.Found.{Found}
+use Rattle.directory.specs.declared.Counts.{Counts}
+use Rattle.directory.specs.declared.Opened.{Opened}
+use Rattle.directory.specs.declared.Opened.the-variants.{Accepted, Refused}
+use Rattle.directory.specs.declared.Found.the-variants.{At, Missing}
+use Rattle.directory.proofs.Opens.{accepted-with, opened-find, refused-positive}
+use Rattle.journal.specs.Outcomes.{Outcome, granted, refused, passing, openedTo}
+use Rattle.journal.specs.Undos.{opens}
+use Rattle.journal.specs.Edits.{fitFault, fitted, badTag, tagged}
 
 pub refused-granted : (number place : ℕ) (t : List ℕ) → refused number place ≡ granted t → ⊥
 refused-granted number place t e = let z : _≡_ {A = ℕ} 0 1 = cc in omega arith
@@ -29,25 +41,100 @@ pub hit-picks : (f : Hit) (a : ℕ → Outcome) (b o : Outcome) → _≡_ {A = O
 hit-picks (hit p) a b o e = inl (p, refl, e)
 hit-picks miss a b o e = inr (refl, e)
 
+-- what a lookup in an image that opened found
+module _ (s : List ℕ) (blocks tag ref : ℕ) (o : Opens s blocks) (f : Found) (is : f ≡ hitFound (findIn s blocks tag ref)) where
+  pub found-hit : (p : ℕ) → f ≡ At p → find s tag ref ≡ hit p
+  found-hit p e = sym (opened-find s blocks tag ref o) ∙ go (findIn s blocks tag ref) (sym is ∙ e)
+    where
+      go : (h : Hit) → hitFound h ≡ At p → h ≡ hit p
+      go (hit q) e = cc
+      go miss e = let z : _≡_ {A = ℕ} 0 1 = cc in absurd (omega arith)
+
+  pub found-miss : (r : Refusal) → f ≡ Missing r → find s tag ref ≡ miss
+  found-miss r e = sym (opened-find s blocks tag ref o) ∙ go (findIn s blocks tag ref) (sym is ∙ e)
+    where
+      go : (h : Hit) → hitFound h ≡ Missing r → h ≡ miss
+      go (hit q) e = let z : _≡_ {A = ℕ} 0 1 = cc in absurd (omega arith)
+      go miss e = refl
+
+-- ---- Rules first
+
+module _ (n place : ℕ) (o : Outcome) where
+  passing-goes : n ≡ 0 → passing n place o ≡ o
+  unfolding passing
+  passing-goes e = ap (λ m. passing m place o) e
+
+  passing-stops : (n ≡ 0 → ⊥) → passing n place o ≡ refused n place
+  unfolding passing
+  passing-stops h = elim (zero? n) [ inl z ↦ absurd (h z) | inr m ↦ rw (m .1) ]
+
+  passing-granted : (t : List ℕ) → passing n place o ≡ granted t → (n ≡ 0) × (o ≡ granted t)
+  passing-granted t e =
+      elim (same? n 0) [
+        | inl z ↦ (z, sym (passing-goes z) ∙ e)
+        | inr h ↦ absurd (refused-granted n place t (sym (passing-stops h) ∙ e))
+      ]
+
 -- ---- Opening first
 
-pub opened-goes : (s : List ℕ) (o : Outcome) → openOf s .number ≡ 0 → openedTo s o ≡ o
+pub openedTo-goes : (s : List ℕ) (o : Outcome) → openOf s .number ≡ 0 → openedTo s o ≡ o
 unfolding openedTo
-opened-goes s o h = rw (openedTo, h)
+openedTo-goes s o h = passing-goes _ _ o h
 
 pub opened-granted : (s : List ℕ) (o : Outcome) (t : List ℕ) → openedTo s o ≡ granted t → (openOf s .number ≡ 0) × (o ≡ granted t)
 unfolding openedTo
-opened-granted s o t e =
-    elim (zero? (openOf s .number)) [
-      | inl z ↦ (z, rw (openedTo, z) at e)
-      | inr m ↦ absurd (refused-granted _ _ t (rw (openedTo, m .1) at e))
-    ]
+opened-granted s o t e = passing-granted _ _ o t e
 
-pub opens-exactly : (s : List ℕ) → (opens s ≡ true) ↔ (openOf s .number ≡ 0)
+pub opens-true : (s : List ℕ) → (opens s ≡ true) ↔ (openOf s .number ≡ 0)
 unfolding opens
-opens-exactly s = (eqb-true (openOf s .number) 0, eq-eqb (openOf s .number) 0)
+opens-true s = (eqb-true (openOf s .number) 0, eq-eqb (openOf s .number) 0)
 
--- ---- An edit's tag and room
+-- by opening's answer
+module _ (s : List ℕ) (o : Opened) (answers : openedNumbers o ≡ openOf s) where
+  pub opens-yes : (c : Counts) → o ≡ Accepted c → opens s ≡ true
+  opens-yes c e = opens-true s .1 (accepted-with s o answers c e .sound)
+
+  module _ (r : Refusal) (e : o ≡ Refused r) where
+    refusal-is : openOf s ≡ refuse 3 (refusalOf o .number) (refusalOf o .place)
+    refusal-is = sym answers ∙ rw e
+
+    closed : openOf s .number ≡ 0 → ⊥
+    closed z = refused-positive s o answers r e (sym (ap (λ a. a .number) refusal-is) ∙ z)
+
+    pub opens-no : opens s ≡ false
+    unfolding opens
+    opens-no = ne-eqb _ _ closed
+
+    -- the refusal that a call passes on, whatever comes after
+    pub opened-stops : (rest : Outcome) → openedTo s rest ≡ refused (refusalOf o .number) (refusalOf o .place)
+    unfolding openedTo
+    opened-stops rest = passing-stops _ _ rest closed ∙ ap (λ a. refused (a .number) (a .place)) refusal-is
+
+-- ---- An edit's tag
+
+module _ (tag : ℕ) where
+  pub bad-zero : tag ≡ 0 → badTag tag ≡ true
+  unfolding badTag
+  bad-zero h = rw (badTag, eq-eqb _ _ h)
+
+  module _ (some : tag ≡ 0 → ⊥) where
+    pub bad-free : tag ≡ 1 → badTag tag ≡ true
+    unfolding badTag
+    bad-free h = rw (badTag, ne-eqb _ _ some, eq-eqb _ _ h)
+
+    module _ (used : tag ≡ 1 → ⊥) where
+      pub bad-lone : tag ≡ 107 → badTag tag ≡ true
+      unfolding badTag
+      bad-lone h = rw (badTag, ne-eqb _ _ some, ne-eqb _ _ used, eq-eqb _ _ h)
+
+      module _ (common : tag ≡ 107 → ⊥) where
+        pub good-below : tag < 16384 → badTag tag ≡ false
+        unfolding badTag
+        good-below h = rw (badTag, ne-eqb _ _ some, ne-eqb _ _ used, ne-eqb _ _ common, lt-leb _ _ h)
+
+        pub bad-extended : 16384 ≤ tag → badTag tag ≡ leb tag 32767
+        unfolding badTag
+        bad-extended h = rw (badTag, ne-eqb _ _ some, ne-eqb _ _ used, ne-eqb _ _ common, le-leb _ _ h)
 
 -- a tag that edits take
 pub record Taken (tag : ℕ) : Type 0 where
@@ -75,6 +162,14 @@ tag-taken tag e =
       base = on-false extended _ _ (h₁ .1);
     }
 
+pub tagged-bad : (s : List ℕ) (tag : ℕ) → openOf s .number ≡ 0 → badTag tag ≡ true → (rest : Outcome) → tagged s tag rest ≡ refused 7 0
+unfolding tagged
+tagged-bad s tag h b rest = openedTo-goes s _ h ∙ rw b
+
+pub tagged-good : (s : List ℕ) (tag : ℕ) → openOf s .number ≡ 0 → badTag tag ≡ false → (rest : Outcome) → tagged s tag rest ≡ rest
+unfolding tagged
+tagged-good s tag h b rest = openedTo-goes s _ h ∙ rw b
+
 pub tagged-granted : (s : List ℕ) (tag : ℕ) (o : Outcome) (t : List ℕ) → tagged s tag o ≡ granted t
     → (openOf s .number ≡ 0) × Taken tag × (o ≡ granted t)
 unfolding tagged
@@ -85,14 +180,44 @@ tagged-granted s tag o t e =
       | inr r ↦ (h .0, tag-taken tag (r .0), r .1)
     ]
 
+-- ---- An edit's room
+
+module _ (capacity size : ℕ) where
+  pub fault-long : most-bytes < size → fitFault capacity size ≡ TOO-LONG
+  unfolding fitFault
+  fault-long h = must-fails _ TOO-LONG _ (lt-leb _ _ h)
+
+  module _ (short : size ≤ most-bytes) where
+    pub fault-room : capacity < size → fitFault capacity size ≡ NO-ROOM
+    unfolding fitFault
+    fault-room h = must-holds _ TOO-LONG _ (le-leb _ _ short) ∙ must-fails _ NO-ROOM _ (lt-leb _ _ h)
+
+    pub fault-none : size ≤ capacity → fitFault capacity size ≡ 0
+    unfolding fitFault
+    fault-none h = must-holds _ TOO-LONG _ (le-leb _ _ short) ∙ must-holds _ NO-ROOM _ (le-leb _ _ h)
+
+  -- a file of so many bytes fits
+  pub fits : fitFault capacity size ≡ 0 → (size ≤ most-bytes) × (size ≤ capacity)
+  unfolding fitFault
+  fits q =
+      let a = passed (leb size most-bytes) 0 _ q in
+      let b = passed (leb size capacity) 18 _ (a .1) in
+      (leb-true _ _ (a .0), leb-true _ _ (b .0))
+
+module _ (capacity : ℕ) (file : List ℕ) (size : ℕ) (is : length file ≡ size) where
+  pub fitted-there : fitFault capacity size ≡ 0 → fitted capacity file ≡ granted file
+  unfolding fitted
+  fitted-there e = passing-goes _ 0 _ (rw is e)
+
+  pub fitted-fault : (k : ℕ) → k ≡ fitFault capacity size → (k ≡ 0 → ⊥) → fitted capacity file ≡ refused k 0
+  unfolding fitted
+  fitted-fault k q z =
+      let e : fitFault capacity (length file) ≡ k = ap (fitFault capacity) is ∙ sym q in
+      passing-stops _ 0 _ (λ h. z (sym e ∙ h)) ∙ ap (λ m. refused m 0) e
+
 pub fitted-granted : (capacity : ℕ) (u t : List ℕ) → fitted capacity u ≡ granted t → (length u ≤ most-bytes) × (length u ≤ capacity) × (u ≡ t)
 unfolding fitted
 fitted-granted capacity u t e =
-    let room = elim (leb (length u) capacity) as (λ b. Outcome) [ false ↦ refused NO-ROOM 0 | true ↦ granted u ] in
-    elim (picks (leb (length u) most-bytes) room (refused TOO-LONG 0) (granted t) e) [
-      | inr r ↦ absurd (refused-granted _ _ t (r .1))
-      | inl l ↦ elim (picks (leb (length u) capacity) (granted u) (refused NO-ROOM 0) (granted t) (l .1)) [
-        | inr r ↦ absurd (refused-granted _ _ t (r .1))
-        | inl k ↦ (leb-true _ _ (l .0), leb-true _ _ (k .0), granted-same u t (k .1))
-      ]
-    ]
+    let g = passing-granted (fitFault capacity (length u)) 0 (granted u) t e in
+    let f = fits capacity (length u) (g .0) in
+    (f .0, f .1, granted-same u t (g .1))

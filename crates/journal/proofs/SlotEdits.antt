@@ -2,19 +2,21 @@
 use Prim.Native.Nat.{ℕ, _+_, _≤_}
 use mathlib.Core.Path.{_≡_, refl, ap, _∙_}
 use mathlib.Core.Logic.{inl, inr}
-use mathlib.Core.List.{List, [], _∷_, append-nil}
+use mathlib.Core.List.{List, [], _∷_}
 use native.Mathlib.Omega.{arith}
 use lib.ListN.{length}
-use Rattle.wire.proofs.Numbers.{Same, Holds, be-same}
+use Rattle.wire.proofs.Numbers.{Same, be-same}
 use Rattle.directory.specs.Blocks.{slotCount, nextBlock}
 use Rattle.directory.specs.Slots.{slotPlaces, slotsOf}
-use Rattle.directory.specs.Rules.{In, Linked, Kept}
+use Rattle.answer.specs.Search.{In}
+use Rattle.directory.specs.Rules.{Linked, Kept}
 use Rattle.directory.proofs.Rules.{chain-kept, kept-blocks, kept-opens}
-use Rattle.journal.specs.Edit.{slotEdit}
+use Rattle.journal.specs.Trailers.{slot-size}
+use Rattle.journal.specs.Edits.{slotEdit}
 use Rattle.journal.proofs.Spacing.{slot-block, slot-inside, slots-two, header-clear}
 use Rattle.journal.proofs.Frames.{slot-same, places-same, blocks-same, Framed}
 use Rattle.journal.proofs.Written.{Writes}
-use Rattle.journal.proofs.Changes.{Changed, changed, slot-known, changed-undone}
+use Rattle.journal.proofs.Changes.{changed, slot-known, changed-undone}
 
 -- ---- The chain stays
 
@@ -26,7 +28,7 @@ linked-same s t (b ∷ (c ∷ bs)) h l = (h b (inl refl) ∙ l .0, linked-same s
 -- ---- A file with other bytes at the slot, and more behind
 
 module _ (s bs : List ℕ) (k : Kept s bs) (q : ℕ) (here : In q (slotPlaces s bs)) (t : List ℕ) (grown : length s ≤ length t)
-    (low : Same s t 0 q) (high : Same s t (q + 12) (length s)) where
+    (low : Same s t 0 q) (high : Same s t (q + slot-size) (length s)) where
   header-same : (b : ℕ) → In b bs → Same s t b (b + 6)
   header-same b i =
       elim (header-clear s bs (chain-kept s bs k .blocks) q b here i) [
@@ -43,7 +45,7 @@ module _ (s bs : List ℕ) (k : Kept s bs) (q : ℕ) (here : In q (slotPlaces s 
   places-are : slotPlaces t bs ≡ slotPlaces s bs
   places-are = places-same s t bs count-same
 
-  slot-stays : (p : ℕ) → In p (slotPlaces s bs) → (p ≡ q → ⊥) → Same s t p (p + 12)
+  slot-stays : (p : ℕ) → In p (slotPlaces s bs) → (p ≡ q → ⊥) → Same s t p (p + slot-size)
   slot-stays p i n =
       let r = slot-inside s bs (chain-kept s bs k .blocks) p i in
       elim (slots-two s bs (chain-kept s bs k .blocks) p q i here n) [
@@ -74,30 +76,25 @@ module _ (s bs : List ℕ) (k : Kept s bs) (q : ℕ) (here : In q (slotPlaces s 
 
 -- ---- The edit
 
-module _ (s bs : List ℕ) (k : Kept s bs) (q : ℕ) (here : In q (slotPlaces s bs)) (slot content : List ℕ) (twelve : length slot ≡ 12) where
-  edit-changed : let t = slotEdit s q slot content in Changed s q 12 [] content t × Holds t q slot
-  unfolding slotEdit
-  edit-changed =
-      let r = slot-inside s bs (chain-kept s bs k .blocks) q here in
-      rw append-nil at (changed s q 12 slot [] content twelve (r .1) (k .short) refl)
-
+module _ (s bs : List ℕ) (k : Kept s bs) (q : ℕ) (here : In q (slotPlaces s bs)) (slot content : List ℕ) (n : length slot ≡ slot-size) where
   pub slot-edit-writes : Writes s bs (slotEdit s q slot content) bs q slot content (length s)
-  unfolding slotsOf
+  unfolding slotsOf slotEdit
   slot-edit-writes =
       let t = slotEdit s q slot content in
-      let c = edit-changed .0 in
-      let grown : length s ≤ length t = omega (arith, c .size) in
       let r = slot-inside s bs (chain-kept s bs k .blocks) q here in
+      let made = changed s q slot-size slot content n (r .1) (k .short) (omega arith) in
+      let c = made .0 in
+      let grown : length s ≤ length t = omega (arith, c .size) in
       let same : slotPlaces t bs ≡ slotPlaces s bs = places-are s bs k q here t grown (c .low) (c .high) in
       record {
         framed = slot-framed s bs k q here t grown (c .low) (c .high);
         here = rw same here;
-        slot-held = edit-changed .1;
+        slot-held = made .1;
         content-held = c .more;
         size = c .size;
         after-header = k .headed .0;
         past = λ b i. omega (arith, count-same s bs k q here t grown (c .low) (c .high) b i, k .inside b i);
-        back = λ before m.
-            changed-undone s q 12 [] content t c (r .1) (omega arith) (omega arith) before (ap (λ a. a .number) (kept-opens t bs m))
-            (slot-known t (length s + length content) q (rw (kept-blocks t bs m, same) here));
+        back = λ all before m.
+            changed-undone s q slot-size content t c (r .1) (inl refl) all (omega arith) before (ap (λ a. a .number) (kept-opens t bs m))
+            (slot-known s t q (rw (kept-blocks t bs m, same) here));
       }

@@ -8,8 +8,10 @@ use native.Mathlib.Omega.{arith}
 use lib.ListN.{length}
 use Rattle.directory.specs.Blocks.{slotCount, blockEnd}
 use Rattle.directory.specs.Slots.{rows, slotPlaces}
-use Rattle.directory.specs.Rules.{In, Pairwise, Apart}
-use Rattle.directory.proofs.Tests.{in-append, same?, pairwise-append, pairwise-in}
+use Rattle.answer.specs.Search.{In, Pairwise}
+use Rattle.directory.specs.Rules.{Apart}
+use Rattle.answer.proofs.Tests.{in-append, same?, pairwise-append, pairwise-in}
+use Rattle.journal.specs.Trailers.{slot-size}
 use Rattle.directory.proofs.Rules.{BlocksKept}
 
 -- ---- Every two of a list without repetition
@@ -25,14 +27,14 @@ pairwise-map R S (z ∷ l) f h = ((λ y i. f z y (inl refl) (inr i) (h .0 y i)),
 
 -- ---- Slots inside their blocks
 
-rows-in : (p k q : ℕ) → In q (rows p k) → (p ≤ q) × (q + 12 ≤ p + 12 * k)
+rows-in : (p k q : ℕ) → In q (rows p k) → (p ≤ q) × (q + slot-size ≤ p + slot-size * k)
 unfolding rows
 rows-in p zero q i = absurd i
 rows-in p (suc k) q (inl e) = omega arith
-rows-in p (suc k) q (inr i) = let r = rows-in (p + 12) k q i in omega arith
+rows-in p (suc k) q (inr i) = let r = rows-in (p + slot-size) k q i in omega arith
 
 -- the block that a slot lies in
-pub slot-block : (s bs : List ℕ) (q : ℕ) → In q (slotPlaces s bs) → (b : ℕ) × In b bs × (b + 6 ≤ q) × (q + 12 ≤ blockEnd s b)
+pub slot-block : (s bs : List ℕ) (q : ℕ) → In q (slotPlaces s bs) → (b : ℕ) × In b bs × (b + 6 ≤ q) × (q + slot-size ≤ blockEnd s b)
 unfolding slotPlaces
 slot-block s [] q i = absurd i
 slot-block s (b ∷ bs) q i =
@@ -45,12 +47,12 @@ slot-block s (b ∷ bs) q i =
 
 -- two slots share no byte
 abbrev pub Spaced : ℕ → ℕ → Type 0
-Spaced p q = (p + 12 ≤ q) ⊎ (q + 12 ≤ p)
+Spaced p q = (p + slot-size ≤ q) ⊎ (q + slot-size ≤ p)
 
 spaced-rows : (p k : ℕ) → Pairwise Spaced (rows p k)
 unfolding rows
 spaced-rows p zero = tt
-spaced-rows p (suc k) = ((λ q i. inl (rows-in (p + 12) k q i .0)), spaced-rows (p + 12) k)
+spaced-rows p (suc k) = ((λ q i. inl (rows-in (p + slot-size) k q i .0)), spaced-rows (p + slot-size) k)
 
 slots-spaced : (s bs : List ℕ) → Pairwise (λ b c. Apart b (blockEnd s b) c (blockEnd s c)) bs → Pairwise Spaced (slotPlaces s bs)
 unfolding slotPlaces
@@ -83,7 +85,7 @@ module _ (s bs : List ℕ) (k : BlocksKept s bs) where
       pairwise-map (λ b c. Apart b (blockEnd s b) c (blockEnd s c)) (λ b c. b ≡ c → ⊥) bs
       (λ b c i j h e. elim h [ inl l ↦ omega arith | inr l ↦ omega arith ]) (k .apart)
 
-  pub slot-inside : (p : ℕ) → In p (slotPlaces s bs) → (10 ≤ p) × (p + 12 ≤ length s)
+  pub slot-inside : (p : ℕ) → In p (slotPlaces s bs) → (10 ≤ p) × (p + slot-size ≤ length s)
   slot-inside p i =
       let t = slot-block s bs p i in
       omega (arith, k .inside (t .0) (t .1), k .after-header (t .0) (t .1))
@@ -97,7 +99,7 @@ module _ (s bs : List ℕ) (k : BlocksKept s bs) where
       (λ p q i j h e. elim h [ inl l ↦ omega arith | inr l ↦ omega arith ]) (slots-spaced s bs (k .apart))
 
   -- a slot is clear of every block's header
-  pub header-clear : (p b : ℕ) → In p (slotPlaces s bs) → In b bs → (b + 6 ≤ p) ⊎ (p + 12 ≤ b)
+  pub header-clear : (p b : ℕ) → In p (slotPlaces s bs) → In b bs → (b + 6 ≤ p) ⊎ (p + slot-size ≤ b)
   header-clear p b i j =
       let t = slot-block s bs p i in
       elim (blocks-two b (t .0) j (t .1)) [

@@ -6,35 +6,25 @@ use mathlib.Core.List.{List, [], _∷_, _++_}
 use native.Mathlib.Omega.{arith}
 use lib.ListN.{length, length-append}
 use borrow.Author.Tests.{ne-eqb}
-use Rattle.wire.specs.Numbers.{bytes, part}
+use Rattle.wire.specs.Numbers.{bytes, part, Bytes}
 use Rattle.wire.proofs.Numbers.{Holds, length-bytes, be-holds}
 use Rattle.directory.specs.Limits.{most-bytes, free-tag, lone-tag}
 use Rattle.directory.specs.Blocks.{blockEnd}
 use Rattle.directory.specs.Slots.{tagAt, refAt, offsetAt, lengthAt, baseTag, sizeAt, contentAt, slotPlaces}
 use Rattle.directory.specs.Opening.{openOf}
-use Rattle.directory.specs.Rules.{In, Live, ElementKept, Clashing, Kept}
-use Rattle.directory.proofs.Tests.{on-false}
-use Rattle.journal.specs.Outcome.{granted}
-use Rattle.journal.specs.Trailer.{trailer-size}
-use Rattle.journal.specs.Undo.{undoOf}
-use Rattle.journal.specs.Edit.{slotBytes, freeSlot, dataOffset, dataSlot}
+use Rattle.answer.specs.Search.{In}
+use Rattle.directory.specs.Rules.{Live, ElementKept, Clashing, Kept}
+use Rattle.answer.proofs.Tests.{on-false, same?}
+use Rattle.journal.specs.Outcomes.{granted}
+use Rattle.journal.specs.Trailers.{trailer-size}
+use Rattle.journal.specs.Undos.{undoOf}
+use Rattle.journal.specs.Edits.{slotBytes, freeSlot, dataOffset, dataSlot}
 use Rattle.journal.proofs.Parts.{holds-left, be-last, part-held}
+use Rattle.journal.proofs.Runs.{offset-empty, offset-full}
 use Rattle.journal.proofs.Frames.{Framed, framed-kept}
 use Rattle.journal.proofs.Outcomes.{Taken}
 
 -- ---- The twelve bytes
-
-length-slot : (tag ref offset size : ℕ) → length (slotBytes tag ref offset size) ≡ 12
-unfolding slotBytes
-length-slot tag ref offset size = simp (length-append, length-bytes)
-
-pub length-free : length freeSlot ≡ 12
-unfolding freeSlot
-length-free = length-slot free-tag 0 0 0
-
-pub length-data : (tag ref : ℕ) (content : List ℕ) (at : ℕ) → length (dataSlot tag ref content at) ≡ 12
-unfolding dataSlot
-length-data tag ref content at = length-slot tag ref (dataOffset content at) (length content)
 
 -- the slot at q as it is read
 record SlotReads (t : List ℕ) (q tag ref offset size : ℕ) : Type 0 where
@@ -69,14 +59,8 @@ free-reads t q h = slot-reads t q free-tag 0 0 0 (omega arith) (omega arith) (om
 -- ---- A filled slot
 
 offset-le : (content : List ℕ) (at : ℕ) → dataOffset content at ≤ at
-unfolding dataOffset
-offset-le [] at = omega arith
-offset-le (x ∷ xs) at = omega arith
-
-offset-is : (content : List ℕ) (at : ℕ) → 0 < length content → dataOffset content at ≡ at
-unfolding dataOffset
-offset-is [] at h = absurd (omega arith)
-offset-is (x ∷ xs) at h = refl
+offset-le content at =
+    elim (same? (length content) 0) [ inl e ↦ omega (arith, offset-empty content at e) | inr h ↦ omega (arith, offset-full content at h) ]
 
 -- the slot at q has the tag and the reference, and its element is the content, which stands at a place
 pub record Filled (t : List ℕ) (q tag ref : ℕ) (content : List ℕ) (at : ℕ) : Type 0 where
@@ -101,7 +85,7 @@ filled t q tag ref content at taken b₁ b₂ b₃ h held inside =
       base-is = base;
       ref-is = r .ref-read;
       size-is = on-false _ _ _ (ne-eqb _ lone-tag (λ e. taken .not-lone (sym base ∙ e))) ∙ r .length-read;
-      offset-is = λ z. r .offset-read ∙ offset-is content at z;
+      offset-is = λ z. r .offset-read ∙ offset-full content at (λ e. omega arith);
       held = held;
       inside = inside;
     }
@@ -146,7 +130,7 @@ pub record Writes (s bs t cs : List ℕ) (q : ℕ) (slot content : List ℕ) (at
   pub size : length t ≡ at + length content + trailer-size
   pub after-header : 4 ≤ at
   pub past : (b : ℕ) → In b cs → blockEnd t b ≤ at
-  pub back : openOf s .number ≡ 0 → Kept t cs → undoOf t ≡ granted s
+  pub back : Bytes s → openOf s .number ≡ 0 → Kept t cs → undoOf t ≡ granted s
 
 -- with a free slot it keeps the rules
 pub freed-kept : (s bs t cs : List ℕ) (q at : ℕ) → Kept s bs → Writes s bs t cs q freeSlot [] at → length t ≤ most-bytes → Kept t cs

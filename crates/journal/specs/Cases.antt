@@ -3,8 +3,8 @@ use Prim.Native.Nat.{ℕ}
 use mathlib.Core.List.{List, [], _∷_, _++_}
 use lib.ListN.{length}
 use Rattle.wire.specs.Numbers.{bytes}
-use Rattle.directory.specs.Answer.{Answer}
-use Rattle.directory.specs.Cases.{four-bytes, A, Row, numbers, table as opening-cases}
+use Rattle.answer.specs.Answer.{Answer}
+use Rattle.directory.specs.Cases.{four-bytes, A, Row, answerNumbers, openingCases}
 use Rattle.journal.specs.History.{add, Call, edit, undo, started, historyAfterAll, historyAnswers}
 
 -- ---- The calls
@@ -38,7 +38,7 @@ A-added =
 
 abbrev pub allNumbers : List Answer → List ℕ
 allNumbers [] = []
-allNumbers (a ∷ rest) = numbers a ++ allNumbers rest
+allNumbers (a ∷ rest) = answerNumbers a ++ allNumbers rest
 
 -- the answers to some calls, in a buffer of so many bytes that begins with A
 abbrev pub answering : ℕ → List Call → List ℕ → Row
@@ -63,9 +63,9 @@ holding capacity calls files =
 
 -- ---- Cases
 
-unfoldable pub table : List Row
-table =
-    opening-cases
+unfoldable pub markedCases : List Row
+markedCases =
+    openingCases
     -- 12. Adding 40000/5 with byte 2a to A: 70 bytes
     ++ (answering 400 (first-add ∷ []) (0 ∷ 0 ∷ 70 ∷ [])
     ∷ holding 400 (first-add ∷ []) (A-added ∷ A ∷ [])

@@ -3,15 +3,14 @@ use Prim.Native.Nat.{ℕ, _+_}
 use mathlib.Core.Path.{_≡_}
 use mathlib.Core.Logic.{_⊎_}
 use mathlib.Core.List.{List, [], _∷_}
-use mathlib.Core.Bool.{not}
 use lib.ListN.{length}
-use Rattle.directory.specs.Limits.{ABSENT}
-use Rattle.directory.specs.Answer.{grant, refuse}
-use Rattle.directory.specs.Search.{Hit, hit, miss, first}
-use Rattle.directory.specs.Slots.{tagAt, baseTag, liveAt, contentAt, slotsOf}
+use Rattle.answer.specs.Refusals.{ABSENT}
+use Rattle.answer.specs.Answer.{grant, refuse}
+use Rattle.answer.specs.Search.{Hit, hit, miss}
+use Rattle.directory.specs.Slots.{tagAt, baseTag, contentAt}
 use Rattle.directory.specs.Lookup.{findOf}
-use Rattle.journal.specs.Trailer.{trailer-size}
-use Rattle.journal.specs.Edit.{block-size}
+use Rattle.journal.specs.Trailers.{trailer-size}
+use Rattle.journal.specs.Edits.{block-size, firstFree}
 use Rattle.journal.specs.History.{Edit, add, replace, remove}
 
 -- ---- What is read
@@ -51,10 +50,6 @@ abbrev pub OtherPair : Edit → ℕ → ℕ → Type 0
 OtherPair e tag ref = (baseTag tag ≡ baseTag (tagOf e) → ⊥) ⊎ (ref ≡ refOf e → ⊥)
 
 -- ---- Lengths
-
--- the first free slot in chain order
-abbrev pub firstFree : List ℕ → Hit
-firstFree s = first (λ p. not (liveAt s p)) (slotsOf s)
 
 -- where the data of an added element goes: behind the file, or behind the block that is appended where no slot is free
 unfoldable pub addedAt : List ℕ → Hit → ℕ

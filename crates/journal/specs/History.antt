@@ -5,11 +5,12 @@ use mathlib.Core.Path.{_≡_}
 use mathlib.Core.List.{List, [], _∷_}
 use lib.ListN.{length, take}
 use Rattle.wire.specs.Numbers.{Bytes}
-use Rattle.directory.specs.Answer.{Answer}
-use Rattle.journal.specs.Outcome.{Outcome, granted, refused, outcomeAnswer}
-use Rattle.journal.specs.Edit.{addTo, replaceIn, removeFrom}
-use Rattle.journal.specs.Undo.{undoOf}
-use Rattle.journal.specs.Buffer.{addIn, replaceInBuffer, removeIn, undoIn, laidOver, putBack}
+use Rattle.answer.specs.Answer.{Answer}
+use Rattle.answer.specs.Lent.{laidOver}
+use Rattle.journal.specs.Outcomes.{Outcome, granted, refused, outcomeAnswer, fileOf}
+use Rattle.journal.specs.Edits.{addOf, replaceOf, removeOf}
+use Rattle.journal.specs.Undos.{undoOf}
+use Rattle.journal.specs.Buffers.{addIn, replaceIn, removeIn, undoIn}
 
 -- ---- Calls
 
@@ -46,18 +47,18 @@ started file = record { top = file; under = [] }
 
 -- an edit is judged by the rules for edits on the top file and the buffer's length
 unfoldable pub edited : ℕ → Edit → List ℕ → Outcome
-edited capacity (add tag ref content) file = addTo file capacity tag ref content
-edited capacity (replace tag ref content) file = replaceIn file capacity tag ref content
-edited capacity (remove tag ref) file = removeFrom file capacity tag ref
+edited capacity (add tag ref content) file = addOf file capacity tag ref content
+edited capacity (replace tag ref content) file = replaceOf file capacity tag ref content
+edited capacity (remove tag ref) file = removeOf file capacity tag ref
 
 -- an undo with two files or more is always granted the one below the top; with one it is judged by the rules of undo on it
 unfoldable pub below : List ℕ → List (List ℕ) → Outcome
 below top [] = undoOf top
 below top (file ∷ files) = granted file
 
-unfoldable pub judged : ℕ → Call → History → Outcome
-judged capacity (edit e) h = edited capacity e (h .top)
-judged capacity undo h = below (h .top) (h .under)
+unfoldable pub decided : ℕ → Call → History → Outcome
+decided capacity (edit e) h = edited capacity e (h .top)
+decided capacity undo h = below (h .top) (h .under)
 
 -- a granted edit's file is laid on top; a granted undo takes the top file off, or puts the restored one in the place of the only one;
 -- a refusal leaves the history
@@ -80,7 +81,7 @@ historyAfterAll capacity (c ∷ cs) h = historyAfterAll capacity cs (historyAfte
 
 unfoldable pub historyAnswers : ℕ → List Call → History → List Answer
 historyAnswers capacity [] h = []
-historyAnswers capacity (c ∷ cs) h = outcomeAnswer (judged capacity c h) ∷ historyAnswers capacity cs (historyAfter capacity c h)
+historyAnswers capacity (c ∷ cs) h = outcomeAnswer (decided capacity c h) ∷ historyAnswers capacity cs (historyAfter capacity c h)
 
 -- ---- The run of the calls, by the definitions that their contracts cite
 
@@ -89,24 +90,22 @@ pub record State : Type 0 where
   pub buffer : List ℕ
   pub size : ℕ
 
-unfoldable pub editOutcome : Edit → State → Outcome
-editOutcome (add tag ref content) m = addIn (m .buffer) (m .size) tag ref content
-editOutcome (replace tag ref content) m = replaceInBuffer (m .buffer) (m .size) tag ref content
-editOutcome (remove tag ref) m = removeIn (m .buffer) (m .size) tag ref
-
 unfoldable pub outcome : Call → State → Outcome
-outcome (edit e) m = editOutcome e m
+outcome (edit (add tag ref content)) m = addIn (m .buffer) (m .size) tag ref content
+outcome (edit (replace tag ref content)) m = replaceIn (m .buffer) (m .size) tag ref content
+outcome (edit (remove tag ref)) m = removeIn (m .buffer) (m .size) tag ref
 outcome undo m = undoIn (m .buffer) (m .size)
 
 unfoldable pub sizeAfter : ℕ → Outcome → ℕ
 sizeAfter size (granted file) = length file
 sizeAfter size (refused number place) = size
 
+-- the buffer that the contracts say the call leaves
+unfoldable pub left : Outcome → State → State
+left o m = record { buffer = laidOver (outcomeAnswer o) (fileOf o) (m .buffer); size = sizeAfter (m .size) o }
+
 unfoldable pub stateAfter : Call → State → State
-stateAfter (edit e) m =
-    record { buffer = laidOver (m .buffer) (editOutcome e m); size = sizeAfter (m .size) (editOutcome e m) }
-stateAfter undo m =
-    record { buffer = putBack (m .buffer) (m .size) (undoIn (m .buffer) (m .size)); size = sizeAfter (m .size) (undoIn (m .buffer) (m .size)) }
+stateAfter c m = left (outcome c m) m
 
 unfoldable pub stateAfterAll : List Call → State → State
 stateAfterAll [] m = m

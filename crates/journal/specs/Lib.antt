@@ -1,10 +1,9 @@
-pub mod Outcome
-pub mod Trailer
-pub mod Edit
-pub mod Undo
-pub mod Change
-pub mod Buffer
-pub mod Restore
+pub mod Outcomes
+pub mod Trailers
+pub mod Edits
+pub mod Undos
+pub mod Buffers
 pub mod History
 pub mod EditRules
 pub mod Cases
+pub mod Steps

@@ -1,14 +1,11 @@
 // The trailer: a record of one change of the directory, with what undo needs to take it back.
 ghost use mathlib.Core.Path.{_≡_};
-ghost use mathlib.Core.Bool.{_&&_};
-ghost use Prim.Native.Nat.{_+_, _≤_, _<_};
-ghost use lib.Dec.{leb};
-ghost use lib.ListN.{length};
+ghost use Prim.Native.Nat.{_≤_, _<_};
 ghost use Rattle.wire.specs.Numbers.{put};
 ghost use Rattle.directory.specs.Limits.{most-bytes};
-ghost use Rattle.journal.specs.Trailer.{carries, previousOf};
-ghost use Rattle.journal.specs.Undo.{placeKnown};
-ghost use Rattle.journal.specs.Change.{changeAt, changeBytes, trailerAt, oldBytes, Opened};
+ghost use Rattle.directory.specs.Steps.Opens.{Opens};
+ghost use Rattle.journal.specs.Trailers.{carries, previousOf, trailerAt, trailerBytes, changeAt, oldBytes};
+ghost use Rattle.journal.specs.Undos.{known};
 
 pub const TRAILER_SIZE: usize = 32;
 
@@ -85,7 +82,7 @@ pub(crate) fn change_at(image: &[u8], place: usize, altered: usize) -> Change
 
 pub(crate) fn write_trailer(buffer: &mut [u8], at: usize, change: Change)
     requires { ⌜ at ≤ most-bytes ⌝ }
-    ensures { λ _. ⌜ now (buffer .exit) ≡ put (now (buffer .entry)) at (changeBytes change) ⌝ }
+    ensures { λ _. ⌜ now (buffer .exit) ≡ put (now (buffer .entry)) at (trailerBytes change) ⌝ }
 {
     wire::write32(buffer, at, change.place);
     wire::write32(buffer, at + 4, change.altered);
@@ -127,8 +124,8 @@ pub(crate) fn write_back(buffer: &mut [u8], change: Change)
 
 // Whether a trailer at t speaks of a slot or a next field of the present directory that lies inside the length before it.
 pub(crate) fn is_known(image: &[u8], blocks: usize, t: usize, change: Change) -> bool
-    requires { ⌜ Opened (now image) blocks × (change ≡ trailerAt (now image) t) × (change .place < 4294967296) ⌝ }
-    ensures { λ r. ⌜ r ≡ leb (change .before) t && placeKnown (now (image .entry)) t (change .place) (change .altered) && leb (change .place + change .altered) (change .before) ⌝ }
+    requires { ⌜ Opens (now image) blocks × (change .place < 4294967296) ⌝ }
+    ensures { λ r. ⌜ r ≡ known (now (image .entry)) t change ⌝ }
 {
     let place = change.place;
     let altered = change.altered;

@@ -1,15 +1,24 @@
 // Edits of a file that stands at the front of a lent buffer, and their undo. Each call judges everything first and writes
 // afterwards, so that a refusal has altered nothing.
 mod change;
-pub mod refusals;
 mod write;
 
+use answer::Refusal;
+use answer::refusals::ABSENT;
+use answer::refusals::BAD_TAG;
+use answer::refusals::BAD_TRAILER;
+use answer::refusals::DIR_BIG;
+use answer::refusals::NO_EDIT;
+use answer::refusals::NO_ROOM;
+use answer::refusals::PRESENT;
+use answer::refusals::TOO_LONG;
 use change::Change;
+use change::LINK;
+use change::SLOT;
 use change::TRAILER_SIZE;
 use directory::Counts;
 use directory::Found;
 use directory::Opened;
-use directory::Refusal;
 use directory::format::EXTENDED_FIRST;
 use directory::format::EXTENDED_LAST;
 use directory::format::FREE;
@@ -18,38 +27,39 @@ use directory::format::MOST_BLOCKS;
 use directory::format::MOST_BYTES;
 use directory::format::MOST_SLOTS;
 use directory::places::Room;
-use directory::refusals::ABSENT;
-use directory::refusals::BAD_TAG;
-use directory::refusals::DIR_BIG;
-use directory::refusals::TOO_LONG;
-use refusals::BAD_TRAILER;
-use refusals::NO_EDIT;
-use refusals::NO_ROOM;
-use refusals::PRESENT;
 use write::BLOCK_SIZE;
 use write::BLOCK_SLOTS;
 ghost use mathlib.Core.Path.{_≡_};
 ghost use mathlib.Core.List.{[], _∷_};
-ghost use mathlib.Core.Bool.{not, _&&_};
 ghost use Prim.Native.Nat.{_+_, _≤_};
-ghost use lib.Dec.{eqb};
 ghost use lib.ListN.{length, take};
+ghost use Rattle.answer.specs.Answer.{grant};
 ghost use Rattle.directory.specs.Limits.{most-bytes};
-ghost use Rattle.directory.specs.Answer.{grant};
-ghost use Rattle.directory.specs.Search.{first};
-ghost use Rattle.directory.specs.Slots.{liveAt, slotsOf};
 ghost use Rattle.directory.specs.Opening.{openOf};
-ghost use Rattle.journal.specs.Trailer.{previousOf};
-ghost use Rattle.journal.specs.Edit.{badTag, dataSlot, slotEdit, newBlock, block-size, blockEdit, fitFault, fitted, addAt};
-ghost use Rattle.journal.specs.Undo.{opens, undoOf};
-ghost use Rattle.journal.specs.Buffer.{addIn, replaceInBuffer, removeIn, undoIn, Does, Undoes};
-ghost use Rattle.journal.specs.Change.{Targets};
-ghost use Rattle.journal.specs.Restore.{Restorable};
+ghost use Rattle.journal.specs.Trailers.{slot-size};
+ghost use Rattle.journal.specs.Edits.{badTag, fitFault};
+ghost use Rattle.journal.specs.Undos.{sound, undoOf};
+ghost use Rattle.journal.specs.Buffers.{addIn, replaceIn, removeIn, undoIn, Leaves};
+ghost use Rattle.journal.specs.Steps.Changes.{OpensIn, Targets, slotIn, blockIn, newIn};
+ghost use Rattle.journal.specs.Steps.Restores.{Restorable};
 
 // The length of the file that a granted call leaves.
 pub enum Edited {
     Granted(usize),
     Refused(Refusal),
+}
+
+// Opens the image that is the first n bytes of a buffer.
+fn open_in(buffer: &[u8], n: usize) -> Opened
+    ensures { λ r. ⌜ OpensIn (now (buffer .entry)) n r ⌝ }
+{
+    if buffer.len() < n {
+        return Opened::Refused(Refusal {
+            number: TOO_LONG,
+            place: 0,
+        });
+    }
+    directory::open(&buffer[..n])
 }
 
 // Whether no edit takes a tag.
@@ -93,15 +103,16 @@ fn put_slot(
     reference: u16,
     content: &[u8],
 ) -> Edited
-    requires { ⌜ (n ≤ most-bytes) × (n ≤ length (now buffer)) × (p + 12 ≤ n) ⌝ }
-    ensures { λ r. ⌜ Does (now (buffer .entry)) (now (buffer .exit)) (fitted (length (now (buffer .entry))) (slotEdit (take n (now (buffer .entry))) p (dataSlot tag reference (now (content .entry)) n) (now (content .entry)))) r ⌝ }
+    requires { ⌜ (n ≤ most-bytes) × (n ≤ length (now buffer)) × (p + slot-size ≤ n) ⌝ }
+    ensures { λ r. ⌜ Leaves (slotIn (now (buffer .entry)) n p tag reference (now (content .entry)))
+        (now (buffer .entry)) (now (buffer .exit)) r ⌝ }
 {
     let end = n + content.len();
-    let number = fit_fault(end + 32, buffer.len());
+    let number = fit_fault(end + TRAILER_SIZE, buffer.len());
     if number != 0 {
         return Edited::Refused(Refusal { number, place: 0 });
     }
-    let change = change::change_at(&buffer[..n], p, 12);
+    let change = change::change_at(&buffer[..n], p, SLOT);
     wire::write_bytes(buffer, n, content);
     change::write_trailer(buffer, end, change);
     write::write_slot(
@@ -112,7 +123,7 @@ fn put_slot(
         write::offset_of(content, n),
         content.len(),
     );
-    Edited::Granted(end + 32)
+    Edited::Granted(end + TRAILER_SIZE)
 }
 
 // Appends a block, whose first slot is pointed at data after it, and links it from the block at b.
@@ -125,15 +136,16 @@ fn put_block(
     content: &[u8],
 ) -> Edited
     requires { ⌜ (n ≤ most-bytes) × (n ≤ length (now buffer)) × (b + 6 ≤ n) ⌝ }
-    ensures { λ r. ⌜ Does (now (buffer .entry)) (now (buffer .exit)) (fitted (length (now (buffer .entry))) (blockEdit (take n (now (buffer .entry))) b (newBlock (dataSlot tag reference (now (content .entry)) (n + block-size))) (now (content .entry)))) r ⌝ }
+    ensures { λ r. ⌜ Leaves (blockIn (now (buffer .entry)) n b tag reference (now (content .entry)))
+        (now (buffer .entry)) (now (buffer .exit)) r ⌝ }
 {
     let start = n + BLOCK_SIZE;
     let end = start + content.len();
-    let number = fit_fault(end + 32, buffer.len());
+    let number = fit_fault(end + TRAILER_SIZE, buffer.len());
     if number != 0 {
         return Edited::Refused(Refusal { number, place: 0 });
     }
-    let change = change::change_at(&buffer[..n], b + 2, 4);
+    let change = change::change_at(&buffer[..n], b + 2, LINK);
     write::write_block(
         buffer,
         n,
@@ -145,20 +157,20 @@ fn put_block(
     wire::write_bytes(buffer, start, content);
     change::write_trailer(buffer, end, change);
     wire::write32(buffer, b + 2, n);
-    Edited::Granted(end + 32)
+    Edited::Granted(end + TRAILER_SIZE)
 }
 
-// What an edit of a tag and a reference meets in an image: a refusal, the slot, or no such slot.
+// What an edit of a tag and a reference meets in the image: a refusal, the slot, or no such slot.
 enum Target {
     Refused(Refusal),
     Present(usize),
     Absent(Counts),
 }
 
-fn meet(image: &[u8], tag: u16, reference: u16) -> Target
-    ensures { λ r. ⌜ Targets (now (image .entry)) tag reference r ⌝ }
+fn meet(buffer: &[u8], n: usize, tag: u16, reference: u16) -> Target
+    ensures { λ r. ⌜ Targets (now (buffer .entry)) n tag reference r ⌝ }
 {
-    let opened = directory::open(image);
+    let opened = open_in(buffer, n);
     let Opened::Accepted(counts) = opened else {
         return Target::Refused(directory::refusal_of(opened));
     };
@@ -168,7 +180,7 @@ fn meet(image: &[u8], tag: u16, reference: u16) -> Target
             place: 0,
         });
     }
-    let found = directory::find_slot(image, counts.blocks, tag, reference);
+    let found = directory::find_slot(&buffer[..n], counts.blocks, tag, reference);
     match found {
         Found::At(p) => Target::Present(p),
         Found::Missing(_) => Target::Absent(counts),
@@ -184,8 +196,10 @@ fn put_new(
     reference: u16,
     content: &[u8],
 ) -> Edited
-    requires { ⌜ (n ≤ length (now buffer)) × (openOf (take n (now buffer)) ≡ grant (counts .blocks ∷ counts .slots ∷ counts .live ∷ [])) ⌝ }
-    ensures { λ r. ⌜ Does (now (buffer .entry)) (now (buffer .exit)) (addAt (take n (now (buffer .entry))) (length (now (buffer .entry))) tag reference (now (content .entry)) (first (λ p. not (liveAt (take n (now (buffer .entry))) p)) (slotsOf (take n (now (buffer .entry)))))) r ⌝ }
+    requires { ⌜ (n ≤ length (now buffer))
+        × (openOf (take n (now buffer)) ≡ grant (counts .blocks ∷ counts .slots ∷ counts .live ∷ [])) ⌝ }
+    ensures { λ r. ⌜ Leaves (newIn (now (buffer .entry)) n tag reference (now (content .entry)))
+        (now (buffer .entry)) (now (buffer .exit)) r ⌝ }
 {
     let room = directory::places::find_room(&buffer[..n], counts.blocks);
     match room {
@@ -210,15 +224,10 @@ fn put_new(
 
 // Adds an element.
 pub fn add(buffer: &mut [u8], n: usize, tag: u16, reference: u16, content: &[u8]) -> Edited
-    ensures { λ r. ⌜ Does (now (buffer .entry)) (now (buffer .exit)) (addIn (now (buffer .entry)) n tag reference (now (content .entry))) r ⌝ }
+    ensures { λ r. ⌜ Leaves (addIn (now (buffer .entry)) n tag reference (now (content .entry)))
+        (now (buffer .entry)) (now (buffer .exit)) r ⌝ }
 {
-    if buffer.len() < n {
-        return Edited::Refused(Refusal {
-            number: TOO_LONG,
-            place: 0,
-        });
-    }
-    let met = meet(&buffer[..n], tag, reference);
+    let met = meet(buffer, n, tag, reference);
     match met {
         Target::Refused(r) => Edited::Refused(r),
         Target::Present(_) => Edited::Refused(Refusal {
@@ -231,15 +240,10 @@ pub fn add(buffer: &mut [u8], n: usize, tag: u16, reference: u16, content: &[u8]
 
 // Points an element at new data, under its base tag.
 pub fn replace(buffer: &mut [u8], n: usize, tag: u16, reference: u16, content: &[u8]) -> Edited
-    ensures { λ r. ⌜ Does (now (buffer .entry)) (now (buffer .exit)) (replaceInBuffer (now (buffer .entry)) n tag reference (now (content .entry))) r ⌝ }
+    ensures { λ r. ⌜ Leaves (replaceIn (now (buffer .entry)) n tag reference (now (content .entry)))
+        (now (buffer .entry)) (now (buffer .exit)) r ⌝ }
 {
-    if buffer.len() < n {
-        return Edited::Refused(Refusal {
-            number: TOO_LONG,
-            place: 0,
-        });
-    }
-    let met = meet(&buffer[..n], tag, reference);
+    let met = meet(buffer, n, tag, reference);
     match met {
         Target::Refused(r) => Edited::Refused(r),
         Target::Present(p) => put_slot(buffer, n, p, tag, reference, content),
@@ -252,15 +256,10 @@ pub fn replace(buffer: &mut [u8], n: usize, tag: u16, reference: u16, content: &
 
 // Frees an element's slot.
 pub fn remove(buffer: &mut [u8], n: usize, tag: u16, reference: u16) -> Edited
-    ensures { λ r. ⌜ Does (now (buffer .entry)) (now (buffer .exit)) (removeIn (now (buffer .entry)) n tag reference) r ⌝ }
+    ensures { λ r. ⌜ Leaves (removeIn (now (buffer .entry)) n tag reference)
+        (now (buffer .entry)) (now (buffer .exit)) r ⌝ }
 {
-    if buffer.len() < n {
-        return Edited::Refused(Refusal {
-            number: TOO_LONG,
-            place: 0,
-        });
-    }
-    let met = meet(&buffer[..n], tag, reference);
+    let met = meet(buffer, n, tag, reference);
     match met {
         Target::Refused(r) => Edited::Refused(r),
         Target::Present(p) => put_slot(buffer, n, p, 1, 0, b""),
@@ -273,7 +272,7 @@ pub fn remove(buffer: &mut [u8], n: usize, tag: u16, reference: u16) -> Edited
 
 // Whether a restored image opens, and its trailer, or none, is the previous one.
 fn is_sound(image: &[u8], previous: usize) -> bool
-    ensures { λ r. ⌜ r ≡ eqb previous (previousOf (now (image .entry))) && opens (now (image .entry)) ⌝ }
+    ensures { λ r. ⌜ r ≡ sound previous (now (image .entry)) ⌝ }
 {
     if previous != change::previous_of(image) {
         return false;
@@ -288,7 +287,8 @@ fn is_sound(image: &[u8], previous: usize) -> bool
 // Puts the old bytes back, and the present ones again where the restored image is not sound.
 fn restore(buffer: &mut [u8], n: usize, present: Change, change: Change) -> Edited
     requires { ⌜ Restorable (now buffer) n present change ⌝ }
-    ensures { λ r. ⌜ Undoes (now (buffer .entry)) (now (buffer .exit)) n (undoOf (take n (now (buffer .entry)))) r ⌝ }
+    ensures { λ r. ⌜ Leaves (undoOf (take n (now (buffer .entry))))
+        (now (buffer .entry)) (now (buffer .exit)) r ⌝ }
 {
     let before = change.before;
     change::write_back(buffer, change);
@@ -304,32 +304,28 @@ fn restore(buffer: &mut [u8], n: usize, present: Change, change: Change) -> Edit
 
 // Takes back the newest edit that the file carries.
 pub fn undo(buffer: &mut [u8], n: usize) -> Edited
-    ensures { λ r. ⌜ Undoes (now (buffer .entry)) (now (buffer .exit)) n (undoIn (now (buffer .entry)) n) r ⌝ }
+    ensures { λ r. ⌜ Leaves (undoIn (now (buffer .entry)) n)
+        (now (buffer .entry)) (now (buffer .exit)) r ⌝ }
 {
-    if buffer.len() < n {
-        return Edited::Refused(Refusal {
-            number: TOO_LONG,
-            place: 0,
-        });
-    }
-    let opened = directory::open(&buffer[..n]);
+    let opened = open_in(buffer, n);
     let Opened::Accepted(counts) = opened else {
         return Edited::Refused(directory::refusal_of(opened));
     };
-    if !change::carries_trailer(&buffer[..n]) {
+    let image = &buffer[..n];
+    if !change::carries_trailer(image) {
         return Edited::Refused(Refusal {
             number: NO_EDIT,
             place: 0,
         });
     }
     let t = n - TRAILER_SIZE;
-    let change = change::read_trailer(&buffer[..n], t);
-    if !change::is_known(&buffer[..n], counts.blocks, t, change) {
+    let change = change::read_trailer(image, t);
+    if !change::is_known(image, counts.blocks, t, change) {
         return Edited::Refused(Refusal {
             number: BAD_TRAILER,
             place: t,
         });
     }
-    let present = change::change_at(&buffer[..n], change.place, change.altered);
+    let present = change::change_at(image, change.place, change.altered);
     restore(buffer, n, present, change)
 }

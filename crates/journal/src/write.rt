@@ -1,10 +1,11 @@
 // Bytes that edits write into the directory.
+use super::change::SLOT;
 use directory::format::FREE;
 ghost use mathlib.Core.Path.{_≡_};
 ghost use Prim.Native.Nat.{_≤_};
 ghost use Rattle.wire.specs.Numbers.{put};
 ghost use Rattle.directory.specs.Limits.{most-bytes};
-ghost use Rattle.journal.specs.Edit.{slotBytes, freeSlots, newBlock, dataOffset};
+ghost use Rattle.journal.specs.Edits.{slotBytes, freeSlots, newBlock, dataOffset};
 
 // A new block has 16 slots.
 pub const BLOCK_SLOTS: usize = 16;
@@ -44,7 +45,7 @@ fn write_free_slots(buffer: &mut [u8], at: usize, count: usize)
 {
     let mut i = 0;
     while i < count {
-        write_slot(buffer, at + 12 * i, FREE, 0, 0, 0);
+        write_slot(buffer, at + SLOT * i, FREE, 0, 0, 0);
         i += 1;
     }
 }

@@ -8,22 +8,23 @@ use lib.ListN.{length, getD, take, drop, length-append}
 use lib.Dec.{leb}
 use lib.Seq.{sets, take-append-seam, drop-append-seam, take-length, drop-length}
 use borrow.Author.Tests.{eq-eqb, ne-eqb, eqb-true, le-leb, lt-leb, leb-true}
-use Rattle.wire.specs.Numbers.{be, bytes, put}
+use Rattle.wire.specs.Numbers.{be, bytes, put, part}
 use Rattle.wire.proofs.Numbers.{length-bytes}
-use Rattle.directory.specs.Answer.{Answer, grant, refuse}
-use Rattle.directory.specs.Slots.{contentAt}
-use Rattle.directory.proofs.Tests.{and-both}
-use Rattle.directory.proofs.Search.{must-holds, must-fails, passed, pass}
-use Rattle.storage.specs.Copy.{laidOver}
-use Rattle.storage.proofs.Plain.{FoundPlain}
-use Rattle.records.specs.Limits.{array-tag}
-use Rattle.records.specs.Layout.{read, extent, numbers, pack, numbersAt, bytesEach, Small, Fits}
-use Rattle.records.specs.Reading.{inRoom, recordBytes}
-use Rattle.records.specs.Arrays.{array, arrayFault, arraySizes, arrayPairs, arrayOf, arrayBytes, arrayPackFault}
+use Rattle.answer.specs.Answer.{Answer, grant, refuse, inRoom}
+use Rattle.answer.proofs.Tests.{and-both}
+use Rattle.answer.proofs.Search.{must-holds, must-fails, passed, pass}
+use Rattle.answer.proofs.Lent.{refuses}
+use Rattle.answer.specs.Search.{Hit}
+use Rattle.storage.specs.Elements.{locatedAt}
+use Rattle.storage.specs.declared.element.Located.{Located}
+use Rattle.storage.specs.declared.element.Located.the-variants.{Plain}
+use Rattle.wire.specs.Layouts.{read, extent, numbers, pack, numbersAt, bytesEach, Small, Fits}
+use Rattle.records.specs.Readings.{recordBytes}
+use Rattle.records.specs.Arrays.{array, arrayFault, arraySizes, arrayPairs, arrayAt, ReadsArray, arrayBytes, arrayPackFault}
 use Rattle.records.specs.declared.array.Array.{Array}
-use Rattle.records.proofs.Layouts.{put-field, put-run, length-bytesEach, length-numbersAt, take-run, drop-run}
-use Rattle.records.proofs.Readings.{record-passes, inRoom-enough, inRoom-short}
-use Rattle.records.proofs.Packings.{laid-kept, laid-list}
+use Rattle.wire.proofs.Layouts.{put-field, put-run, length-bytesEach, length-numbersAt, take-run, drop-run}
+use Rattle.records.proofs.Readings.{reads-passed, reads-bytes, reads-list}
+use Rattle.answer.proofs.Answer.{inRoom-enough, inRoom-short}
 
 -- ---- The record
 
@@ -102,55 +103,42 @@ module _ (sizes pairs : List ℕ) (h : length pairs ≡ 2 * (length sizes + 1)) 
 
 -- ---- Reading
 
--- what a reading answers and leaves in the two lists
-abbrev pub Leaves : List ℕ → ℕ → List ℕ → List ℕ → Answer → List ℕ → List ℕ → Type 0
-Leaves s ref sizes pairs answer sizes-after pairs-after =
-    let of = arrayOf s ref (length sizes) (length pairs) in
-    (answer ≡ of)
-    × ((sizes-after ≡ laidOver of (arraySizes (recordBytes s array-tag ref)) sizes)
-    × (pairs-after ≡ laidOver of (arrayPairs (recordBytes s array-tag ref)) pairs))
+-- what a reading at what a lookup found leaves in the two lists
+abbrev LeavesAt : List ℕ → Hit → List ℕ → List ℕ → Answer → List ℕ → List ℕ → Type 0
+LeavesAt s found sizes pairs numbers sizes-after pairs-after =
+    ReadsArray (arrayAt s found (length sizes) (length pairs)) (recordBytes s found) sizes sizes-after pairs pairs-after numbers
 
-module _ (s : List ℕ) (ref : ℕ) (sizes pairs : List ℕ) where
-  pub leaves-refused : (number place : ℕ) → refuse 1 number place ≡ arrayOf s ref (length sizes) (length pairs) → (number ≡ 0 → ⊥)
-      → Leaves s ref sizes pairs (refuse 1 number place) sizes pairs
-  leaves-refused number place e z =
-      let h : arrayOf s ref (length sizes) (length pairs) .number ≡ 0 → ⊥ = λ q. z (ap (λ a. a .number) e ∙ q) in
-      (e, (laid-kept _ _ sizes h, laid-kept _ _ pairs h))
+module _ (s : List ℕ) (found : Hit) (sizes pairs : List ℕ) where
+  pub leaves-refused : (number place : ℕ) → arrayAt s found (length sizes) (length pairs) ≡ refuse 1 number place → (number ≡ 0 → ⊥)
+      → LeavesAt s found sizes pairs (refuse 1 number place) sizes pairs
+  leaves-refused number place e z = (refuses _ _ sizes 1 number place e z, refuses _ _ pairs 1 number place e z)
 
-  -- the array of the element's bytes, which break no rule
-  module _ (p o n : ℕ) (f : FoundPlain s array-tag ref p o n) (e : List ℕ) (content : e ≡ contentAt s p) (sound : arrayFault e ≡ 0)
-      (a : Array) (is : a ≡ read array e 0) where
-    array-judged : arrayOf s ref (length sizes) (length pairs) ≡ inRoom 1 (leb (a .rank) (length sizes) && leb (2 * (a .rank + 1)) (length pairs)) (grant (a .rank ∷ []))
-    unfolding arrayOf
+  -- the array of the element's bytes e, which break no rule
+  module _ (l : Located) (is : l ≡ locatedAt s found) (p o n : ℕ) (plain : l ≡ Plain p o n) (e : List ℕ) (of : e ≡ part s o n)
+      (sound : arrayFault e ≡ 0) (a : Array) (read-is : a ≡ read array e 0) where
+    array-judged : arrayAt s found (length sizes) (length pairs) ≡ inRoom 1 (leb (a .rank) (length sizes) && leb (2 * (a .rank + 1)) (length pairs)) (grant (a .rank ∷ []))
+    unfolding arrayAt
     array-judged =
-        let r : a ≡ read array (contentAt s p) 0 = is ∙ ap (λ e. read array e 0) content in
-        record-passes 1 s array-tag ref arrayFault _ p o n f (ap arrayFault (f .content ∙ sym content) ∙ sound)
-        ∙ ap (λ b. inRoom 1 (leb (b .rank) (length sizes) && leb (2 * (b .rank + 1)) (length pairs)) (grant (b .rank ∷ []))) (sym r)
+        reads-passed 1 s found arrayFault _ l is p o n plain e of sound
+        ∙ ap (λ b. inRoom 1 (leb (b .rank) (length sizes) && leb (2 * (b .rank + 1)) (length pairs)) (grant (b .rank ∷ []))) (sym read-is)
 
-    pub leaves-sizes : length sizes < a .rank → Leaves s ref sizes pairs (refuse 1 14 0) sizes pairs
-    leaves-sizes h = leaves-refused 14 0 (sym (array-judged ∙ inRoom-short 1 _ _ (rw (lt-leb _ _ h)))) (λ z. omega arith)
+    pub leaves-sizes : length sizes < a .rank → LeavesAt s found sizes pairs (refuse 1 14 0) sizes pairs
+    leaves-sizes h = leaves-refused 14 0 (array-judged ∙ inRoom-short 1 _ _ (rw (lt-leb _ _ h))) (λ z. omega arith)
 
-    pub leaves-pairs : length pairs < 2 * (a .rank + 1) → Leaves s ref sizes pairs (refuse 1 14 0) sizes pairs
-    leaves-pairs h = leaves-refused 14 0 (sym (array-judged ∙ inRoom-short 1 _ _ (rw (lt-leb _ _ h) (and-false (leb (a .rank) (length sizes)))))) (λ z. omega arith)
+    pub leaves-pairs : length pairs < 2 * (a .rank + 1) → LeavesAt s found sizes pairs (refuse 1 14 0) sizes pairs
+    leaves-pairs h = leaves-refused 14 0 (array-judged ∙ inRoom-short 1 _ _ (rw (lt-leb _ _ h) (and-false (leb (a .rank) (length sizes))))) (λ z. omega arith)
 
-    module _ (sizes-fit : a .rank ≤ length sizes) (pairs-fit : 2 * (a .rank + 1) ≤ length pairs) where
-      pub array-granted : arrayOf s ref (length sizes) (length pairs) ≡ grant (a .rank ∷ [])
-      array-granted = array-judged ∙ inRoom-enough 1 _ _ (and-both _ _ (le-leb _ _ sizes-fit) (le-leb _ _ pairs-fit))
-
-      pub leaves-granted : (sizes-after pairs-after : List ℕ)
-          → sizes-after ≡ sets sizes 0 (numbersAt 4 (a .rank) e (a .sizes))
-          → pairs-after ≡ sets pairs 0 (numbersAt 2 (2 * (a .rank + 1)) e (a .pairs))
-          → Leaves s ref sizes pairs (grant (a .rank ∷ [])) sizes-after pairs-after
-      unfolding arraySizes arrayPairs
-      leaves-granted sizes-after pairs-after q r =
-          let granted = ap (λ b. b .number) array-granted in
-          let v : recordBytes s array-tag ref ≡ e = f .viewed ∙ sym content in (
-            sym array-granted,
-            (
-              rw v (laid-list _ _ sizes granted (rw (length-numbersAt, ← is) sizes-fit) sizes-after (rw is at q)),
-              rw v (laid-list _ _ pairs granted (rw (length-numbersAt, ← is) pairs-fit) pairs-after (rw is at r)),
-            ),
-          )
+    pub leaves-granted : a .rank ≤ length sizes → 2 * (a .rank + 1) ≤ length pairs → (sizes-after pairs-after : List ℕ)
+        → sizes-after ≡ sets sizes 0 (numbersAt 4 (a .rank) e (a .sizes))
+        → pairs-after ≡ sets pairs 0 (numbersAt 2 (2 * (a .rank + 1)) e (a .pairs))
+        → LeavesAt s found sizes pairs (grant (a .rank ∷ [])) sizes-after pairs-after
+    unfolding arraySizes arrayPairs
+    leaves-granted sizes-fit pairs-fit sizes-after pairs-after q r =
+        let granted = array-judged ∙ inRoom-enough 1 _ _ (and-both _ _ (le-leb _ _ sizes-fit) (le-leb _ _ pairs-fit)) in
+        let v : recordBytes s found ≡ e = reads-bytes s found l is p o n plain ∙ sym of in (
+          rw v (reads-list _ _ sizes _ granted (rw (length-numbersAt, ← read-is) sizes-fit) sizes-after (rw read-is at q)),
+          rw v (reads-list _ _ pairs _ granted (rw (length-numbersAt, ← read-is) pairs-fit) pairs-after (rw read-is at r)),
+        )
 
 -- ---- Packing
 

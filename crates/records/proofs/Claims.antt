@@ -2,27 +2,29 @@
 use Prim.Native.Nat.{ℕ, _+_, _*_, _^_, _<_, _≤_}
 use native.Mathlib.Omega.{arith}
 use mathlib.Core.Path.{_≡_, refl, sym, ap, _∙_}
+use mathlib.Core.Bool.{false}
 use mathlib.Core.List.{List, [], _∷_, _++_}
 use lib.ListN.{length}
 use borrow.Author.Tests.{le-leb}
 use Rattle.wire.specs.Numbers.{be, Bytes}
-use Rattle.directory.specs.Answer.{grant}
-use Rattle.directory.specs.Search.{hit}
+use Rattle.answer.specs.Answer.{grant}
+use Rattle.answer.specs.Search.{hit}
 use Rattle.directory.specs.Slots.{contentAt}
 use Rattle.directory.specs.Opening.{openOf}
 use Rattle.directory.specs.Lookup.{find}
-use Rattle.directory.proofs.Tests.{and-both}
-use Rattle.storage.specs.Elements.{plainFault}
+use Rattle.answer.proofs.Tests.{and-both}
+use Rattle.storage.specs.Elements.{extendedAt}
 use Rattle.records.specs.Limits.{number-type-tag, array-tag}
-use Rattle.records.specs.Layout.{read, extent, numbers, pack, given, Small, Fits}
-use Rattle.records.specs.Reading.{recordBytes}
-use Rattle.records.specs.NumberTypes.{numberType, numberTypeValues, numberTypeFault, numberTypeOf, numberTypeBytes}
-use Rattle.records.specs.Dimensions.{dimension, dimensionValues, dimensionFault, dimensionOf, dimensionBytes, dimensionPackFault}
-use Rattle.records.specs.Arrays.{array, arrayFault, arraySizes, arrayPairs, arrayOf, arrayBytes, arrayPackFault}
+use Rattle.wire.specs.Layouts.{read, extent, numbers, pack, given, Small, Fits}
+use Rattle.records.specs.Readings.{recordBytes}
+use Rattle.records.specs.NumberTypes.{numberType, numberTypeValues, numberTypeFault, numberTypeAt, numberTypeOf, numberTypeBytes}
+use Rattle.records.specs.Dimensions.{dimension, dimensionValues, dimensionFault, dimensionAt, dimensionOf, dimensionBytes, dimensionPackFault}
+use Rattle.records.specs.Arrays.{array, arrayFault, arraySizes, arrayPairs, arrayAt, arrayOf, arrayBytes, arrayPackFault}
 use Rattle.records.specs.declared.number_type.NumberType.{NumberType}
 use Rattle.records.specs.declared.dimension.Dimension.{Dimension}
-use Rattle.records.proofs.Layouts.{packed-whole}
-use Rattle.records.proofs.Readings.{found-plain, record-granted, content-passes, content-packs, inRoom-enough}
+use Rattle.wire.proofs.Layouts.{packed-whole}
+use Rattle.records.proofs.Readings.{record-granted, content-passes, content-packs}
+use Rattle.answer.proofs.Answer.{inRoom-enough}
 use Rattle.records.proofs.NumberTypes
 use Rattle.records.proofs.Dimensions
 use Rattle.records.proofs.Arrays
@@ -30,37 +32,37 @@ use Rattle.records.proofs.Arrays
 -- ---- Number types
 
 pub number-type-packs : (s : List ℕ) (ref : ℕ) (x : NumberType) → Bytes s → numberTypeOf s ref ≡ grant (numberTypeValues x)
-    → numberTypeBytes x ≡ recordBytes s number-type-tag ref
-unfolding numberTypeOf numberTypeBytes numbers read extent
+    → numberTypeBytes x ≡ recordBytes s (find s number-type-tag ref)
+unfolding numberTypeOf numberTypeAt numberTypeBytes numbers read extent
 number-type-packs s ref x b h =
     let g = record-granted 4 s number-type-tag ref numberTypeFault _ (ap (λ a. a .number) h) in
     let e = contentAt s (g .0) in
     let values : numbers numberType e 0 ≡ numberTypeValues x = ap (λ a. a .values) (sym (g .1 .answers) ∙ h) in
     ap (λ xs. pack numberType xs 0) (sym values)
-    ∙ content-packs numberType s number-type-tag ref (g .0) _ _ (g .1 .found) b (sym (NumberTypes.sound-bytes e (g .1 .sound)))
+    ∙ content-packs numberType s number-type-tag ref (g .0) _ _ (g .1 .found) b (sym (NumberTypes.sound-bytes e (g .1 .sound))) ∙ sym (g .1 .bytes)
 
 module _ (x : NumberType) (version : x .version < 256) (code : x .code < 256) (width : x .width < 256) (class : x .class < 256) where
   number-type-fits : Fits numberType (numberTypeValues x) 0
   number-type-fits = (omega arith, version, (omega arith, code, (omega arith, width, (omega arith, class, refl))))
 
-  pub number-type-reads : (s : List ℕ) (ref p : ℕ) → openOf s .number ≡ 0 → find s number-type-tag ref ≡ hit p → plainFault s p ≡ 0
+  pub number-type-reads : (s : List ℕ) (ref p : ℕ) → openOf s .number ≡ 0 → find s number-type-tag ref ≡ hit p → extendedAt s p ≡ false
       → contentAt s p ≡ numberTypeBytes x → numberTypeOf s ref ≡ grant (numberTypeValues x)
-  unfolding numberTypeOf numberTypeBytes given
+  unfolding numberTypeOf numberTypeAt numberTypeBytes given
   number-type-reads s ref p opens found plain is =
-      content-passes 4 s number-type-tag ref numberTypeFault _ p opens found plain (NumberTypes.four-bytes _ (ap length is ∙ NumberTypes.length-number-type x))
+      content-passes 4 s number-type-tag ref numberTypeFault _ p opens found plain (NumberTypes.four-bytes _ (ap length is ∙ NumberTypes.length-number-type x)) .answers
       ∙ ap (λ y. grant (numberTypeValues y)) (packed-whole numberType (numberTypeValues x) number-type-fits _ is .read-is)
 
 -- ---- Dimensions
 
 pub dimension-packs : (s : List ℕ) (tag ref : ℕ) (d : Dimension) → Bytes s → dimensionOf s tag ref ≡ grant (dimensionValues d)
-    → dimensionBytes d ≡ recordBytes s tag ref
-unfolding dimensionOf dimensionBytes numbers read extent
+    → dimensionBytes d ≡ recordBytes s (find s tag ref)
+unfolding dimensionOf dimensionAt dimensionBytes numbers read extent
 dimension-packs s tag ref d b h =
     let g = record-granted 8 s tag ref dimensionFault _ (ap (λ a. a .number) h) in
     let e = contentAt s (g .0) in
     let values : numbers dimension e 0 ≡ dimensionValues d = ap (λ a. a .values) (sym (g .1 .answers) ∙ h) in
     ap (λ xs. pack dimension xs 0) (sym values)
-    ∙ content-packs dimension s tag ref (g .0) _ _ (g .1 .found) b (sym (Dimensions.sound-bytes e (g .1 .sound)))
+    ∙ content-packs dimension s tag ref (g .0) _ _ (g .1 .found) b (sym (Dimensions.sound-bytes e (g .1 .sound))) ∙ sym (g .1 .bytes)
 
 module _ (d : Dimension) (sound : dimensionPackFault d ≡ 0) (x : d .x < 256 ^ 4) (y : d .y < 256 ^ 4)
     (type-tag : d .«type_tag» < 256 ^ 2) (type-ref : d .«type_ref» < 256 ^ 2) (elements : d .elements < 256 ^ 2)
@@ -69,35 +71,34 @@ module _ (d : Dimension) (sound : dimensionPackFault d ≡ 0) (x : d .x < 256 ^ 
   dimension-fits =
       (omega arith, x, (omega arith, y, (omega arith, type-tag, (omega arith, type-ref, (omega arith, elements, (omega arith, omega (arith, Dimensions.pack-sound d sound), (omega arith, compression-tag, (omega arith, compression-ref, refl))))))))
 
-  pub dimension-reads : (s : List ℕ) (tag ref p : ℕ) → openOf s .number ≡ 0 → find s tag ref ≡ hit p → plainFault s p ≡ 0
+  pub dimension-reads : (s : List ℕ) (tag ref p : ℕ) → openOf s .number ≡ 0 → find s tag ref ≡ hit p → extendedAt s p ≡ false
       → contentAt s p ≡ dimensionBytes d → dimensionOf s tag ref ≡ grant (dimensionValues d)
-  unfolding dimensionOf dimensionBytes given read
+  unfolding dimensionOf dimensionAt dimensionBytes given read
   dimension-reads s tag ref p opens found plain is =
       let r = packed-whole dimension (dimensionValues d) dimension-fits _ is .read-is in
       let interlace : be 2 (contentAt s p) 14 ≤ 2 = rw (ap (λ y. y .interlace) r) (Dimensions.pack-sound d sound) in
-      content-passes 8 s tag ref dimensionFault _ p opens found plain (Dimensions.whole-bytes _ (ap length is ∙ Dimensions.length-dimension d) interlace)
+      content-passes 8 s tag ref dimensionFault _ p opens found plain (Dimensions.whole-bytes _ (ap length is ∙ Dimensions.length-dimension d) interlace) .answers
       ∙ ap (λ y. grant (dimensionValues y)) r
 
 -- ---- Arrays
 
 pub array-packs : (s : List ℕ) (ref a b : ℕ) → Bytes s → arrayOf s ref a b .number ≡ 0
-    → let e = recordBytes s array-tag ref in arrayBytes (arraySizes e) (arrayPairs e) ≡ e
-unfolding arrayOf arrayBytes
+    → let e = recordBytes s (find s array-tag ref) in arrayBytes (arraySizes e) (arrayPairs e) ≡ e
+unfolding arrayOf arrayAt arrayBytes
 array-packs s ref a b bytes h =
     let g = record-granted 1 s array-tag ref arrayFault _ h in
     let e = contentAt s (g .0) in
-    rw (g .1 .found .viewed)
+    rw (g .1 .bytes)
     (ap (λ xs. pack array xs 0) (sym (Arrays.array-numbers e))
-    ∙ content-packs array s array-tag ref (g .0) _ _ (g .1 .found) bytes (Arrays.sound-extent e (g .1 .sound))
-    ∙ g .1 .found .viewed)
+    ∙ content-packs array s array-tag ref (g .0) _ _ (g .1 .found) bytes (Arrays.sound-extent e (g .1 .sound)))
 
 module _ (sizes pairs : List ℕ) (sound : arrayPackFault (length sizes) (length pairs) ≡ 0) (small-sizes : Small 4 sizes) (small-pairs : Small 2 pairs) where
-  pub array-reads : (s : List ℕ) (ref a b p : ℕ) → openOf s .number ≡ 0 → find s array-tag ref ≡ hit p → plainFault s p ≡ 0
+  pub array-reads : (s : List ℕ) (ref a b p : ℕ) → openOf s .number ≡ 0 → find s array-tag ref ≡ hit p → extendedAt s p ≡ false
       → contentAt s p ≡ arrayBytes sizes pairs → length sizes ≤ a → length pairs ≤ b
       → (arrayOf s ref a b ≡ grant (length sizes ∷ []))
-      × (arraySizes (recordBytes s array-tag ref) ≡ sizes)
-      × (arrayPairs (recordBytes s array-tag ref) ≡ pairs)
-  unfolding arrayOf arrayBytes read
+      × (arraySizes (recordBytes s (find s array-tag ref)) ≡ sizes)
+      × (arrayPairs (recordBytes s (find s array-tag ref)) ≡ pairs)
+  unfolding arrayOf arrayAt arrayBytes read
   array-reads s ref a b p opens found plain is sizes-fit pairs-fit =
       let h = Arrays.pack-sound (length sizes) (length pairs) sound in
       let e = contentAt s p in
@@ -106,9 +107,9 @@ module _ (sizes pairs : List ℕ) (sound : arrayPackFault (length sizes) (length
       let rank = Arrays.rank-of sizes pairs (h .2) e are in
       let whole : length e ≡ 6 + 8 * be 2 e 0 = rw rank (ap length is ∙ Arrays.length-array sizes pairs (h .2)) in
       let pairs-room : 2 * (length sizes + 1) ≤ b = omega arith in
-      let v = found-plain s array-tag ref p opens found plain .viewed in (
-        content-passes 1 s array-tag ref arrayFault _ p opens found plain (Arrays.whole-bytes e whole (omega arith))
+      let g = content-passes 1 s array-tag ref arrayFault _ p opens found plain (Arrays.whole-bytes e whole (omega arith)) in (
+        g .answers
             ∙ rw rank (inRoom-enough 1 _ _ (and-both _ _ (le-leb _ _ sizes-fit) (le-leb _ _ pairs-room))),
-        rw v (Arrays.sizes-of sizes pairs (h .2) e are),
-        rw v (Arrays.pairs-of sizes pairs (h .2) e are),
+        rw (g .bytes) (Arrays.sizes-of sizes pairs (h .2) e are),
+        rw (g .bytes) (Arrays.pairs-of sizes pairs (h .2) e are),
       )

@@ -5,11 +5,11 @@ use mathlib.Core.List.{List}
 use lib.ListN.{length}
 use borrow.Author.Tests.{eq-eqb, ne-eqb, eqb-true, le-leb, lt-leb, leb-true}
 use Rattle.wire.specs.Numbers.{be, bytes, put}
-use Rattle.directory.proofs.Search.{must-holds, must-fails, passed, pass}
-use Rattle.records.specs.Layout.{read, extent, pack}
+use Rattle.answer.proofs.Search.{must-holds, must-fails, passed, pass}
+use Rattle.wire.specs.Layouts.{read, extent, pack}
 use Rattle.records.specs.Dimensions.{dimensionFault, dimensionBytes, dimensionPackFault}
 use Rattle.records.specs.declared.dimension.Dimension.{Dimension}
-use Rattle.records.proofs.Layouts.{put-field}
+use Rattle.wire.proofs.Layouts.{put-field}
 
 module _ (e : List ℕ) where
   pub other-bytes : (length e ≡ 20 → ⊥) → dimensionFault e ≡ 15

@@ -9,8 +9,8 @@ use lib.ListN.{length, getD, drop, set, length-set}
 use lib.Seq.{sets, drop-length}
 use Rattle.wire.specs.Numbers.{be, bytes, put}
 use Rattle.wire.proofs.Numbers.{length-bytes, length-put, put-put}
-use Rattle.records.specs.Layout.{numbersAt, bytesEach}
-use Rattle.records.proofs.Layouts.{numbersAt-next, bytesEach-next}
+use Rattle.wire.specs.Layouts.{numbersAt, bytesEach}
+use Rattle.wire.proofs.Layouts.{numbersAt-next, bytesEach-next}
 
 -- ---- From bytes to a list
 

@@ -5,11 +5,11 @@ use mathlib.Core.List.{List}
 use lib.ListN.{length}
 use borrow.Author.Tests.{eq-eqb, ne-eqb, eqb-true}
 use Rattle.wire.specs.Numbers.{bytes, put}
-use Rattle.directory.proofs.Search.{must-fails, passed, pass}
-use Rattle.records.specs.Layout.{extent, pack}
+use Rattle.answer.proofs.Search.{must-fails, passed, pass}
+use Rattle.wire.specs.Layouts.{extent, pack}
 use Rattle.records.specs.NumberTypes.{numberTypeFault, numberTypeBytes}
 use Rattle.records.specs.declared.number_type.NumberType.{NumberType}
-use Rattle.records.proofs.Layouts.{put-field}
+use Rattle.wire.proofs.Layouts.{put-field}
 
 module _ (e : List ℕ) where
   pub four-bytes : length e ≡ 4 → numberTypeFault e ≡ 0

@@ -1,123 +1,157 @@
 -- What reading a record comes to, case by case, and what a granted reading tells. Assumes nothing.
-use Prim.Native.Nat.{ℕ, _+_, _-_}
-use mathlib.Core.Path.{_≡_, sym, ap, _∙_}
+use Prim.Native.Nat.{ℕ, suc, _≤_}
+use native.Mathlib.Nat.{suc-ne-zero}
+use native.Mathlib.Omega.{arith}
+use mathlib.Core.Path.{_≡_, refl, sym, ap, _∙_}
 use mathlib.Core.Logic.{inl, inr}
 use mathlib.Core.List.{List}
-use mathlib.Core.Bool.{Bool, true, false}
-use lib.ListN.{length, take, drop}
-use Rattle.wire.specs.Numbers.{part, Bytes}
-use Rattle.wire.proofs.Numbers.{bytes-part}
-use Rattle.directory.specs.Limits.{SMALL}
-use Rattle.directory.specs.Answer.{Answer, refuse}
-use Rattle.directory.specs.Search.{hit}
+use mathlib.Core.Bool.{false}
+use lib.ListN.{length}
+use lib.Seq.{sets}
+use Rattle.answer.specs.Search.{Hit, hit}
+use Rattle.answer.specs.Answer.{Answer, grant, refuse}
+use Rattle.answer.specs.Lent.{Does}
+use Rattle.answer.specs.declared.Refusal.{Refusal}
+use Rattle.answer.proofs.Tests.{zero?}
+use Rattle.answer.proofs.Lent.{grants}
+use Rattle.wire.specs.Numbers.{put, part, Bytes}
+use Rattle.wire.specs.Layouts.{Layout, extent, numbers, pack}
+use Rattle.wire.proofs.Numbers.{bytes-part, put-front}
+use Rattle.wire.proofs.Layouts.{pack-whole}
 use Rattle.directory.specs.Slots.{sizeAt, contentAt}
 use Rattle.directory.specs.Opening.{openOf}
 use Rattle.directory.specs.Lookup.{find}
-use Rattle.directory.specs.declared.Refusal.{Refusal}
-use Rattle.directory.proofs.Tests.{same?}
-use Rattle.directory.proofs.Search.{must-holds, must-fails}
-use Rattle.directory.proofs.Rules.{opened-goes}
-use Rattle.storage.specs.Elements.{startAt, judged, plainFault, inPlain}
-use Rattle.storage.specs.View.{locatedAt, plainOf, refusalIn}
-use Rattle.storage.specs.declared.view.Located.{Located}
-use Rattle.storage.specs.declared.view.Located.the-variants.{Refused}
-use Rattle.storage.proofs.Elements.{judged-passes, judged-stops, locate-plain, length-part, part-between, plain-passed, opened-passed}
-use Rattle.storage.proofs.Plain.{FoundPlain, located-found, reads-on, reads-refused}
-use Rattle.records.specs.Layout.{Layout, extent, numbers, pack}
-use Rattle.records.specs.Reading.{recordOf, inRoom, recordBytes}
-use Rattle.records.proofs.Layouts.{pack-whole}
+use Rattle.directory.proofs.Opens.{opened-goes, opened-passed}
+use Rattle.storage.specs.Elements.{extendedAt, startAt, elementAt, plainOnly, locatedAt, bytesAt, refusalIn, onPlain}
+use Rattle.storage.specs.declared.element.Located.{Located}
+use Rattle.storage.specs.declared.element.Located.the-variants.{Plain, Refused}
+use Rattle.storage.proofs.Elements.{FoundPlain, found-plain, element-plain, located-element, located-positive}
+use Rattle.records.specs.Readings.{soundIn, recordAt, recordOf, recordBytes}
 
--- ---- The element
+-- ---- The element of a record
 
-pub found-plain : (s : List ℕ) (tag ref p : ℕ) → openOf s .number ≡ 0 → find s tag ref ≡ hit p → plainFault s p ≡ 0
-    → FoundPlain s tag ref p (startAt s p) (sizeAt s p)
-found-plain s tag ref p sound found plain =
-    located-found s tag ref sound p (startAt s p) (sizeAt s p) (ap (locatedAt s) found ∙ locate-plain s p plain)
+module _ (fault : List ℕ → ℕ) (s : List ℕ) where
+  pub sound-refused : (l : Located) (x : Refusal) → l ≡ Refused x → soundIn fault s l ≡ Refused x
+  unfolding soundIn
+  sound-refused l x e = ap (soundIn fault s) e
 
--- its part of the image
-pub part-content : (s : List ℕ) (tag ref p o n : ℕ) → FoundPlain s tag ref p o n → take (o + n - o) (drop o s) ≡ contentAt s p
-part-content s tag ref p o n f = part-between s o n ∙ f .content
+  -- the bytes b are the element's
+  module _ (l : Located) (p o n : ℕ) (e : l ≡ Plain p o n) (b : List ℕ) (of : b ≡ part s o n) where
+    pub sound-broken : (number : ℕ) → number ≡ fault b → (number ≡ 0 → ⊥) → soundIn fault s l ≡ Refused (record { number = number; place = p })
+    unfolding soundIn
+    sound-broken number f z =
+        elim (zero? number) [
+          | inl q ↦ absurd (z q)
+          | inr m ↦ let g : fault (part s o n) ≡ suc (m .0) = ap fault (sym of) ∙ sym f ∙ m .1 in rw (m .1) (ap (soundIn fault s) e ∙ rw (soundIn, g))
+        ]
 
-pub part-long : (s : List ℕ) (tag ref p o n : ℕ) → FoundPlain s tag ref p o n → length (take (o + n - o) (drop o s)) ≡ n
-part-long s tag ref p o n f = ap length (part-between s o n) ∙ length-part s o n (f .inside)
+    pub sound-passes : fault b ≡ 0 → soundIn fault s l ≡ Plain p o n
+    unfolding soundIn
+    sound-passes f = let g : fault (part s o n) ≡ 0 = ap fault (sym of) ∙ f in ap (soundIn fault s) e ∙ rw (soundIn, g)
 
--- ---- The record
+  -- what is sound is plain, and breaks no rule
+  pub sound-plain : (l : Located) (p o n : ℕ) → soundIn fault s l ≡ Plain p o n → (l ≡ Plain p o n) × (fault (part s o n) ≡ 0)
+  unfolding soundIn
+  sound-plain (Refused x) p o n e = let z : _≡_ {A = ℕ} 0 1 = cc in absurd (omega arith)
+  sound-plain (Plain q a m) p o n e =
+      elim (zero? (fault (part s a m))) [
+        | inl z ↦
+            let is : Plain q a m ≡ Plain p o n = sym (sound-passes (Plain q a m) q a m refl _ refl z) ∙ e in
+            let at : a ≡ o = cc in
+            let long : m ≡ n = cc in
+            (is, rw (← at, ← long) z)
+        | inr k ↦
+            let is : Refused (record { number = fault (part s a m); place = q }) ≡ Plain p o n =
+            sym (sound-broken (Plain q a m) q a m refl _ refl _ refl (λ z. suc-ne-zero (k .0) (sym (k .1) ∙ z))) ∙ e in
+            let z : _≡_ {A = ℕ} 0 1 = cc in absurd (omega arith)
+      ]
 
-module _ (k : ℕ) (s : List ℕ) (tag ref : ℕ) (fault : List ℕ → ℕ) (answer : ℕ → Answer) where
-  pub record-refused : (x : Refusal) → plainOf s tag ref ≡ Refused x → recordOf k s tag ref fault answer ≡ refuse k (x .number) (x .place)
-  unfolding recordOf
-  record-refused x e = reads-refused s tag ref x e k _
+  -- no refusal of what is found has the number 0
+  pub sound-positive : (found : Hit) (x : Refusal) → soundIn fault s (locatedAt s found) ≡ Refused x → x .number ≡ 0 → ⊥
+  sound-positive found x e z = go (locatedAt s found) refl e
+    where
+      go : (l : Located) → locatedAt s found ≡ l → soundIn fault s l ≡ Refused x → ⊥
+      go (Refused y) is q =
+          let same : y ≡ x = ap refusalIn (sym (sound-refused (Refused y) y refl) ∙ q) in
+          located-positive (elementAt s found) y is (ap (λ r. r .number) same ∙ z)
+      go (Plain p o n) is q =
+          elim (zero? (fault (part s o n))) [
+            | inl f ↦
+                let bad : Plain p o n ≡ Refused x = sym (sound-passes (Plain p o n) p o n refl _ refl f) ∙ q in
+                let w : _≡_ {A = ℕ} 0 1 = cc in absurd (omega arith)
+            | inr k ↦
+                let r = sym (sound-broken (Plain p o n) p o n refl _ refl _ refl (λ f. suc-ne-zero (k .0) (sym (k .1) ∙ f))) ∙ q in
+                suc-ne-zero (k .0) (sym (k .1) ∙ ap (λ y. refusalIn y .number) r ∙ z)
+          ]
 
-  module _ (p o n : ℕ) (f : FoundPlain s tag ref p o n) where
-    record-judged : recordOf k s tag ref fault answer ≡ judged k (fault (part s o n)) p (answer p)
-    unfolding recordOf
-    record-judged = reads-on s tag ref p o n f k _ ∙ ap (λ e. judged k (fault e) p (answer p)) (sym (f .content))
+-- ---- What was located, in the form in which the functions use it
 
-    pub record-broken : (fault (part s o n) ≡ 0 → ⊥) → recordOf k s tag ref fault answer ≡ refuse k (fault (part s o n)) p
-    record-broken z = record-judged ∙ judged-stops k _ p (answer p) z
+module _ (k : ℕ) (s : List ℕ) (found : Hit) (fault : List ℕ → ℕ) (answer : ℕ → List ℕ → Answer) (l : Located) (is : l ≡ locatedAt s found) where
+  -- what is answered where the element is refused, or sound
+  answered : (m : Located) → soundIn fault s l ≡ m → recordAt k s found fault answer ≡ onPlain k (λ p offset size. answer offset (part s offset size)) m
+  unfolding recordAt
+  answered m e = ap (λ x. onPlain k (λ p offset size. answer offset (part s offset size)) (soundIn fault s x)) (sym is) ∙ ap (onPlain k (λ p offset size. answer offset (part s offset size))) e
 
-    pub record-passes : fault (part s o n) ≡ 0 → recordOf k s tag ref fault answer ≡ answer p
-    record-passes e = record-judged ∙ judged-passes k _ p (answer p) e
+  pub reads-refusal : (x : Refusal) → l ≡ Refused x → (r : Refusal) → r ≡ refusalIn l → recordAt k s found fault answer ≡ refuse k (r .number) (r .place)
+  reads-refusal x e r taken = answered _ (sound-refused fault s l x e) ∙ ap (λ y. refuse k (y .number) (y .place)) (sym (taken ∙ ap refusalIn e))
 
-  -- in the form in which the functions use them: what was located, and the element's part of the image
-  pub reads-refusal : (located : Located) → located ≡ plainOf s tag ref → (x : Refusal) → located ≡ Refused x → (r : Refusal) → r ≡ refusalIn located
-      → refuse k (r .number) (r .place) ≡ recordOf k s tag ref fault answer
-  reads-refusal located is x e r taken =
-      let q : r ≡ x = taken ∙ ap refusalIn e in
-      rw q (sym (record-refused x (sym is ∙ e)))
+  module _ (p o n : ℕ) (e : l ≡ Plain p o n) (b : List ℕ) (of : b ≡ part s o n) where
+    pub reads-broken : (number : ℕ) → number ≡ fault b → (number ≡ 0 → ⊥) → recordAt k s found fault answer ≡ refuse k number p
+    reads-broken number f z = answered _ (sound-broken fault s l p o n e b of number f z)
 
-  module _ (p o n : ℕ) (f : FoundPlain s tag ref p o n) (number : ℕ) (is : number ≡ fault (take (o + n - o) (drop o s))) where
-    fault-part : number ≡ fault (part s o n)
-    fault-part = is ∙ ap fault (part-between s o n)
+    pub reads-passed : fault b ≡ 0 → recordAt k s found fault answer ≡ answer o b
+    reads-passed z = answered _ (sound-passes fault s l p o n e b of z) ∙ ap (answer o) (sym of)
 
-    pub reads-broken : (number ≡ 0 → ⊥) → refuse k number p ≡ recordOf k s tag ref fault answer
-    reads-broken z = rw fault-part (sym (record-broken p o n f (λ q. z (fault-part ∙ q))))
+pub reads-positive : (s : List ℕ) (found : Hit) (l : Located) → l ≡ locatedAt s found → (x : Refusal) → l ≡ Refused x → (r : Refusal) → r ≡ refusalIn l → r .number ≡ 0 → ⊥
+reads-positive s found l is x e r taken z = located-positive (elementAt s found) x (sym is ∙ e) (ap (λ y. y .number) (sym (taken ∙ ap refusalIn e)) ∙ z)
 
-    pub reads-passed : number ≡ 0 → recordOf k s tag ref fault answer ≡ answer p
-    reads-passed z = record-passes p o n f (sym fault-part ∙ z)
+pub reads-bytes : (s : List ℕ) (found : Hit) (l : Located) → l ≡ locatedAt s found → (p o n : ℕ) → l ≡ Plain p o n → recordBytes s found ≡ part s o n
+reads-bytes s found l is p o n e = ap (bytesAt s) (sym is ∙ e)
 
+-- what is put into a lent list
+pub reads-list : (answer : Answer) (list lent : List ℕ) (values : List ℕ) → answer ≡ grant values → length list ≤ length lent → (after : List ℕ) → after ≡ sets lent 0 list
+    → Does answer list lent after (grant values)
+unfolding put
+reads-list answer list lent values e h after q = grants answer list lent values e after (q ∙ put-front lent list h)
+
+-- ---- A record on an image
+
+module _ (k : ℕ) (s : List ℕ) (tag ref : ℕ) (fault : List ℕ → ℕ) (answer : ℕ → List ℕ → Answer) where
   -- a reading that is not refused found a plain element whose bytes break no rule of the record
   pub record Granted (p : ℕ) : Type 0 where
     pub found : FoundPlain s tag ref p (startAt s p) (sizeAt s p)
     pub sound : fault (contentAt s p) ≡ 0
-    pub answers : recordOf k s tag ref fault answer ≡ answer p
+    pub answers : recordOf k s tag ref fault answer ≡ answer (startAt s p) (contentAt s p)
+    pub bytes : recordBytes s (find s tag ref) ≡ contentAt s p
+
+  -- a plain element whose bytes break no rule of the record is read
+  pub content-passes : (p : ℕ) → openOf s .number ≡ 0 → find s tag ref ≡ hit p → extendedAt s p ≡ false → fault (contentAt s p) ≡ 0 → Granted p
+  unfolding recordAt
+  content-passes p opens found plain sound =
+      let f = found-plain s tag ref p (startAt s p) (sizeAt s p) opens (ap (elementAt s) found ∙ element-plain s p plain) in
+      let l : locatedAt s (find s tag ref) ≡ Plain p (startAt s p) (sizeAt s p) = ap plainOnly (f .is) in
+      record {
+        found = f;
+        sound = sound;
+        answers = opened-goes k s _ opens ∙ reads-passed k s (find s tag ref) fault answer _ refl p _ _ l (contentAt s p) (sym (f .content)) sound;
+        bytes = ap (bytesAt s) l ∙ f .content;
+      }
 
   pub record-granted : recordOf k s tag ref fault answer .number ≡ 0 → (p : ℕ) × Granted p
-  unfolding recordOf
+  unfolding recordAt
   record-granted e =
-      let go : ℕ → Answer = λ p. judged k (fault (contentAt s p)) p (answer p) in
-      let opens = opened-passed k s (inPlain k s go (find s tag ref)) e in
-      let h = plain-passed k s go (find s tag ref) (ap (λ a. a .number) (sym (opened-goes k s _ opens)) ∙ e) in
-      let f = found-plain s tag ref (h .0) opens (h .1) (h .2) in
-      elim (same? (fault (contentAt s (h .0))) 0) [
-        | inl z ↦ (h .0, record { found = f; sound = z; answers = record-passes (h .0) _ _ f (ap fault (f .content) ∙ z) })
-        | inr z ↦
-            let c = ap fault (f .content) in
-            absurd (z (sym c ∙ ap (λ a. a .number) (sym (record-broken (h .0) _ _ f (λ q. z (sym c ∙ q)))) ∙ e))
-      ]
-
--- ---- Records and bytes
-
--- a plain element whose bytes break no rule of the record is read
-pub content-passes : (k : ℕ) (s : List ℕ) (tag ref : ℕ) (fault : List ℕ → ℕ) (answer : ℕ → Answer) (p : ℕ) → openOf s .number ≡ 0 → find s tag ref ≡ hit p
-    → plainFault s p ≡ 0 → fault (contentAt s p) ≡ 0 → recordOf k s tag ref fault answer ≡ answer p
-content-passes k s tag ref fault answer p opens found plain sound =
-    let f = found-plain s tag ref p opens found plain in
-    record-passes k s tag ref fault answer p _ _ f (ap fault (f .content) ∙ sound)
+      let opens = opened-passed k s (recordAt k s (find s tag ref) fault answer) e in
+      let q = ap (λ a. a .number) (sym (opened-goes k s (recordAt k s (find s tag ref) fault answer) opens)) ∙ e in
+      let h = passed (soundIn fault s (locatedAt s (find s tag ref))) refl q in
+      let f = found-plain s tag ref (h .0) (h .1) (h .2) opens (located-element _ _ _ _ (h .3 .0)) in
+      (h .0, content-passes (h .0) opens (f .found) (f .plain) (ap fault (sym (f .content)) ∙ h .3 .1))
+    where
+      passed : (l : Located) → soundIn fault s (locatedAt s (find s tag ref)) ≡ l → onPlain k (λ p offset size. answer offset (part s offset size)) l .number ≡ 0
+          → (p : ℕ) × (o : ℕ) × (n : ℕ) × ((locatedAt s (find s tag ref) ≡ Plain p o n) × (fault (part s o n) ≡ 0))
+      passed (Refused x) is z = absurd (sound-positive fault s (find s tag ref) x is z)
+      passed (Plain p o n) is z = (p, o, n, sound-plain fault s (locatedAt s (find s tag ref)) p o n is)
 
 -- the numbers of a record that ends where its bytes do give these bytes
 pub content-packs : {A : Type 0} (layout : Layout A) (s : List ℕ) (tag ref p o n : ℕ) → FoundPlain s tag ref p o n → Bytes s
-    → extent layout (contentAt s p) 0 ≡ length (contentAt s p) → pack layout (numbers layout (contentAt s p) 0) 0 ≡ recordBytes s tag ref
-content-packs layout s tag ref p o n f b h =
-    pack-whole layout (contentAt s p) (rw (← f .content) (bytes-part s o n b)) h ∙ sym (f .viewed)
-
--- ---- What is lent
-
-module _ (k : ℕ) (enough : Bool) (answer : Answer) where
-  pub inRoom-enough : enough ≡ true → inRoom k enough answer ≡ answer
-  unfolding inRoom
-  inRoom-enough e = judged-passes k _ 0 answer (must-holds enough SMALL 0 e)
-
-  pub inRoom-short : enough ≡ false → inRoom k enough answer ≡ refuse k SMALL 0
-  unfolding inRoom judged
-  inRoom-short e = ap (λ n. judged k n 0 answer) (must-fails enough SMALL 0 e)
+    → extent layout (contentAt s p) 0 ≡ length (contentAt s p) → pack layout (numbers layout (contentAt s p) 0) 0 ≡ contentAt s p
+content-packs layout s tag ref p o n f b h = pack-whole layout (contentAt s p) (rw (← f .content) (bytes-part s o n b)) h

@@ -4,12 +4,15 @@ use mathlib.Core.List.{List, [], _∷_, _++_}
 use mathlib.Core.Bool.{_&&_}
 use lib.ListN.{length}
 use lib.Dec.{leb, eqb}
-use Rattle.directory.specs.Answer.{Answer, grant, refuse}
-use Rattle.directory.specs.Search.{must}
-use Rattle.directory.specs.Slots.{contentAt}
-use Rattle.records.specs.Limits.{array-tag, most-count, RECORD}
-use Rattle.records.specs.Layout.{Layout, end, number, run, read, numbersAt, pack}
-use Rattle.records.specs.Reading.{recordOf, inRoom, exactly}
+use Rattle.answer.specs.Answer.{Answer, grant, refuse, inRoom}
+use Rattle.answer.specs.Search.{must, Hit}
+use Rattle.records.specs.Limits.{array-tag, most-count}
+use Rattle.answer.specs.Refusals.{RECORD}
+use Rattle.wire.specs.Layouts.{Layout, end, number, run, read, numbersAt, pack}
+use Rattle.directory.specs.Opening.{opened}
+use Rattle.directory.specs.Lookup.{find}
+use Rattle.answer.specs.Lent.{Does}
+use Rattle.records.specs.Readings.{recordAt, exactly}
 use Rattle.records.specs.declared.array.Array.{Array}
 use Rattle.records.specs.declared.array.Answered.{Answered}
 use Rattle.records.specs.declared.array.Answered.the-variants.{Rank, Refused}
@@ -34,10 +37,18 @@ unfoldable pub arrayPairs : List ℕ → List ℕ
 arrayPairs e = numbersAt 2 (2 * (read array e 0 .rank + 1)) e (read array e 0 .pairs)
 
 -- the rank, where the lent lists have room for the sizes and the pairs
+unfoldable pub arrayAt : List ℕ → Hit → ℕ → ℕ → Answer
+arrayAt s found sizes pairs =
+    recordAt 1 s found arrayFault
+    (λ at e. let rank = read array e 0 .rank in inRoom 1 (leb rank sizes && leb (2 * (rank + 1)) pairs) (grant (rank ∷ [])))
+
 unfoldable pub arrayOf : List ℕ → ℕ → ℕ → ℕ → Answer
-arrayOf s ref sizes pairs =
-    recordOf 1 s array-tag ref arrayFault
-    (λ p. let rank = read array (contentAt s p) 0 .rank in inRoom 1 (leb rank sizes && leb (2 * (rank + 1)) pairs) (grant (rank ∷ [])))
+arrayOf s ref sizes pairs = opened 1 s (arrayAt s (find s array-tag ref) sizes pairs)
+
+-- what a reading of the record e leaves in the two lists
+abbrev pub ReadsArray : Answer → List ℕ → List ℕ → List ℕ → List ℕ → List ℕ → Answer → Type 0
+ReadsArray answer e sizes sizes-after pairs pairs-after numbers =
+    Does answer (arraySizes e) sizes sizes-after numbers × Does answer (arrayPairs e) pairs pairs-after numbers
 
 unfoldable pub arrayBytes : List ℕ → List ℕ → List ℕ
 arrayBytes sizes pairs = pack array (length sizes ∷ (sizes ++ pairs)) 0

@@ -2,12 +2,14 @@
 use Prim.Native.Nat.{ℕ}
 use mathlib.Core.List.{List, [], _∷_}
 use lib.Dec.{leb}
-use Rattle.directory.specs.Answer.{Answer, grant, refuse}
-use Rattle.directory.specs.Search.{must}
-use Rattle.directory.specs.Slots.{contentAt}
-use Rattle.records.specs.Limits.{most-interlace, RECORD}
-use Rattle.records.specs.Layout.{Layout, end, number, read, pack}
-use Rattle.records.specs.Reading.{recordOf, exactly}
+use Rattle.answer.specs.Answer.{Answer, grant, refuse}
+use Rattle.answer.specs.Search.{must, Hit}
+use Rattle.records.specs.Limits.{most-interlace}
+use Rattle.answer.specs.Refusals.{RECORD}
+use Rattle.wire.specs.Layouts.{Layout, end, number, read, pack}
+use Rattle.directory.specs.Opening.{opened}
+use Rattle.directory.specs.Lookup.{find}
+use Rattle.records.specs.Readings.{recordAt, exactly}
 use Rattle.records.specs.declared.dimension.Dimension.{Dimension}
 use Rattle.records.specs.declared.dimension.Answered.{Answered}
 use Rattle.records.specs.declared.dimension.Answered.the-variants.{Values, Refused}
@@ -40,8 +42,11 @@ dimensionNumbers (Refused r) = refuse 8 (r .number) (r .place)
 unfoldable pub dimensionFault : List ℕ → ℕ
 dimensionFault e = must (exactly dimension e) RECORD (must (leb (read dimension e 0 .interlace) most-interlace) RECORD 0)
 
+unfoldable pub dimensionAt : List ℕ → Hit → Answer
+dimensionAt s found = recordAt 8 s found dimensionFault (λ at e. grant (dimensionValues (read dimension e 0)))
+
 unfoldable pub dimensionOf : List ℕ → ℕ → ℕ → Answer
-dimensionOf s tag ref = recordOf 8 s tag ref dimensionFault (λ p. grant (dimensionValues (read dimension (contentAt s p) 0)))
+dimensionOf s tag ref = opened 8 s (dimensionAt s (find s tag ref))
 
 unfoldable pub dimensionBytes : Dimension → List ℕ
 dimensionBytes d = pack dimension (dimensionValues d) 0

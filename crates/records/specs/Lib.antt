@@ -1,7 +1,7 @@
 pub mod Limits
-pub mod Layout
-pub mod Reading
-pub mod Packing
+pub mod Readings
+pub mod Packings
 pub mod NumberTypes
 pub mod Dimensions
 pub mod Arrays
+pub mod Types

@@ -1,4 +1,4 @@
--- Numbers that document 01 fixes for records, each named once: tags, limits, and the refusal numbers of its table. Assumes nothing.
+-- Numbers that document 01 fixes for records, each named once: tags and limits. Assumes nothing.
 use Prim.Native.Nat.{ℕ}
 
 -- ---- Tags
@@ -17,8 +17,3 @@ most-interlace = 2
 -- the greatest number of 16 bits
 abbrev pub most-count : ℕ
 most-count = 65535
-
--- ---- Refusal numbers
-
-abbrev pub RECORD : ℕ
-RECORD = 15

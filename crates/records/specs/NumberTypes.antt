@@ -1,12 +1,14 @@
 -- Number types, tag 106, after document 01, "Records". Assumes nothing.
 use Prim.Native.Nat.{ℕ}
 use mathlib.Core.List.{List, [], _∷_}
-use Rattle.directory.specs.Answer.{Answer, grant, refuse}
-use Rattle.directory.specs.Search.{must}
-use Rattle.directory.specs.Slots.{contentAt}
-use Rattle.records.specs.Limits.{number-type-tag, RECORD}
-use Rattle.records.specs.Layout.{Layout, end, number, read, pack}
-use Rattle.records.specs.Reading.{recordOf, exactly}
+use Rattle.answer.specs.Answer.{Answer, grant, refuse}
+use Rattle.answer.specs.Search.{must, Hit}
+use Rattle.records.specs.Limits.{number-type-tag}
+use Rattle.answer.specs.Refusals.{RECORD}
+use Rattle.wire.specs.Layouts.{Layout, end, number, read, pack}
+use Rattle.directory.specs.Opening.{opened}
+use Rattle.directory.specs.Lookup.{find}
+use Rattle.records.specs.Readings.{recordAt, exactly}
 use Rattle.records.specs.declared.number_type.NumberType.{NumberType}
 use Rattle.records.specs.declared.number_type.Answered.{Answered}
 use Rattle.records.specs.declared.number_type.Answered.the-variants.{Values, Refused}
@@ -27,9 +29,11 @@ numberTypeNumbers (Refused r) = refuse 4 (r .number) (r .place)
 unfoldable pub numberTypeFault : List ℕ → ℕ
 numberTypeFault e = must (exactly numberType e) RECORD 0
 
+unfoldable pub numberTypeAt : List ℕ → Hit → Answer
+numberTypeAt s found = recordAt 4 s found numberTypeFault (λ at e. grant (numberTypeValues (read numberType e 0)))
+
 unfoldable pub numberTypeOf : List ℕ → ℕ → Answer
-numberTypeOf s ref =
-    recordOf 4 s number-type-tag ref numberTypeFault (λ p. grant (numberTypeValues (read numberType (contentAt s p) 0)))
+numberTypeOf s ref = opened 4 s (numberTypeAt s (find s number-type-tag ref))
 
 unfoldable pub numberTypeBytes : NumberType → List ℕ
 numberTypeBytes x = pack numberType (numberTypeValues x) 0

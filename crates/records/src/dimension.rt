@@ -1,14 +1,17 @@
 // Dimensions, tags 300, 307 and 308.
 use super::Packed;
 use super::format::MOST_INTERLACE;
-use super::refusals::RECORD;
-use directory::Refusal;
-use directory::refusals::SMALL;
-use storage::view::Located;
+use answer::Refusal;
+use answer::refusals::RECORD;
+use answer::refusals::SMALL;
+use directory::Opened;
+use storage::element;
+use storage::element::Located;
 ghost use mathlib.Core.Path.{_≡_};
-ghost use Rattle.records.specs.Layout as Layout;
-ghost use Rattle.records.specs.Packing.{Packs};
-ghost use Rattle.records.specs.Dimensions.{dimensionFault, dimensionNumbers, dimensionOf, dimensionBytes, dimensionPackFault};
+ghost use Rattle.wire.specs.Layouts as Layout;
+ghost use Rattle.directory.specs.Lookup.{findIn};
+ghost use Rattle.records.specs.Packings.{packedNumbers, Packs};
+ghost use Rattle.records.specs.Dimensions.{dimensionFault, dimensionNumbers, dimensionAt, dimensionOf, dimensionBytes, dimensionPackFault};
 ghost use Rattle.records.specs.Dimensions as Dimensions;
 
 pub struct Dimension {
@@ -55,20 +58,20 @@ fn fault(part: &[u8]) -> usize
     0
 }
 
-// Reads the dimension of a tag and a reference.
-pub fn read(image: &[u8], tag: u16, reference: u16) -> Answered
-    ensures { λ r. ⌜ dimensionNumbers r ≡ dimensionOf (now (image .entry)) tag reference ⌝ }
+// Reads the dimension of a tag and a reference, in a chain of so many blocks.
+pub fn read_in(image: &[u8], blocks: usize, tag: u16, reference: u16) -> Answered
+    ensures { λ r. ⌜ dimensionNumbers r ≡ dimensionAt (now (image .entry)) (findIn (now (image .entry)) blocks tag reference) ⌝ }
 {
-    let located = storage::view::find_plain(image, tag, reference);
+    let located = element::locate(image, blocks, tag, reference);
     let Located::Plain {
         slot,
         offset,
         length,
     } = located
     else {
-        return Answered::Refused(storage::view::refusal_of(located));
+        return Answered::Refused(element::refusal_of(located));
     };
-    let part = &image[offset..offset + length];
+    let part = wire::part(image, offset, length);
     let number = fault(part);
     if number != 0 {
         return Answered::Refused(Refusal {
@@ -79,9 +82,20 @@ pub fn read(image: &[u8], tag: u16, reference: u16) -> Answered
     Answered::Values(parse(part))
 }
 
+// The same in an image that is opened first.
+pub fn read(image: &[u8], tag: u16, reference: u16) -> Answered
+    ensures { λ r. ⌜ dimensionNumbers r ≡ dimensionOf (now (image .entry)) tag reference ⌝ }
+{
+    let opened = directory::open(image);
+    let Opened::Accepted(counts) = opened else {
+        return Answered::Refused(directory::refusal_of(opened));
+    };
+    read_in(image, counts.blocks, tag, reference)
+}
+
 // Packs a dimension into the front of a lent buffer.
 pub fn pack(d: Dimension, out: &mut [u8]) -> Packed
-    ensures { λ r. ⌜ Packs (dimensionPackFault d) (dimensionBytes d) (now (out .entry)) (now (out .exit)) r ⌝ }
+    ensures { λ r. ⌜ Packs (dimensionPackFault d) (dimensionBytes d) (now (out .entry)) (now (out .exit)) (packedNumbers r) ⌝ }
 {
     if MOST_INTERLACE < d.interlace as usize {
         return Packed::Refused(Refusal {

@@ -4,7 +4,7 @@ ghost use Prim.Native.Nat.{_+_, _*_, _≤_};
 ghost use lib.ListN.{length};
 ghost use lib.Seq.{sets};
 ghost use Rattle.wire.specs.Numbers.{put};
-ghost use Rattle.records.specs.Layout.{numbersAt, bytesEach};
+ghost use Rattle.wire.specs.Layouts.{numbersAt, bytesEach};
 
 // Takes so many numbers of 16 bits, from a place of a record on, to the front of a list.
 pub(crate) fn take16(part: &[u8], at: usize, count: usize, list: &mut [u16])

@@ -1,46 +1,38 @@
--- The elements of slots: the tests of the code, where their bytes stand, and what a call that reads plain storage alone comes to.
--- Assumes nothing.
+-- The elements of slots: the tests of the code, where their bytes stand, and what a lookup finds of them. Assumes nothing.
 use Prim.Native.Nat.{ℕ, zero, suc, _+_, _*_, _-_, _<_, _≤_}
 use native.Mathlib.Nat.{suc-ne-zero}
 use native.Mathlib.Omega.{arith}
 use mathlib.Core.Path.{_≡_, refl, sym, ap, _∙_}
 use mathlib.Core.Logic.{inl, inr}
 use mathlib.Core.List.{List}
-use mathlib.Core.Bool.{true, false, not}
+use mathlib.Core.Bool.{true, false}
 use lib.Dec.{leb, ltb}
-use lib.ListN.{length, take, drop, length-drop}
-use lib.Seq.{length-take-le}
-use borrow.Author.Tests.{ltb-true, ltb-false, le-leb, lt-leb, eq-eqb, ne-eqb, not-true}
+use lib.ListN.{length, take, drop}
+use borrow.Author.Tests.{ltb-true, ltb-false, le-leb, lt-leb, eq-eqb, ne-eqb}
+use Rattle.answer.specs.Search.{Hit, hit, miss, In}
+use Rattle.answer.specs.Answer.{Answer, refuse}
+use Rattle.answer.specs.declared.Refusal.{Refusal}
+use Rattle.answer.proofs.Tests.{test, zero?, in-append}
 use Rattle.wire.specs.Numbers.{part, Bytes}
-use Rattle.wire.proofs.Numbers.{be-small}
-use Rattle.directory.specs.Limits.{lone-tag, ABSENT}
-use Rattle.directory.specs.Answer.{Answer, refuse}
-use Rattle.directory.specs.Search.{must, Hit, hit, miss}
+use Rattle.wire.proofs.Numbers.{be-small, length-part}
+use Rattle.directory.specs.Limits.{lone-tag}
 use Rattle.directory.specs.Blocks.{slotCount, nextBlock}
 use Rattle.directory.specs.Slots.{tagAt, offsetAt, lengthAt, rows, slotsOf, baseTag, sizeAt, contentAt}
-use Rattle.directory.specs.Opening.{openOf, opened}
-use Rattle.directory.specs.Cursor.{slotsAfter, most-place}
-use Rattle.directory.specs.Rules.{In, Live}
-use Rattle.directory.specs.declared.Refusal.{Refusal}
-use Rattle.directory.proofs.Tests.{test, zero?, same?, in-append}
-use Rattle.directory.proofs.Search.{passed}
+use Rattle.directory.specs.Opening.{openOf}
+use Rattle.directory.specs.Links.{slotsAfter}
+use Rattle.directory.specs.Lookup.{find, findIn}
+use Rattle.directory.specs.Rules.{Live}
+use Rattle.directory.specs.Steps.Opens.{Opens}
+use Rattle.directory.specs.Steps.Cursors.{most-place}
 use Rattle.directory.proofs.Slots.{base-below, base-above}
-use Rattle.directory.proofs.Rules.{opens-kept, opened-stops}
-use Rattle.storage.specs.Elements.{extendedAt, startAt, judged, plainFault, inPlain}
-use Rattle.storage.specs.View.{locatedAt, refusalIn}
-use Rattle.storage.specs.declared.view.Located.{Located}
-use Rattle.storage.specs.declared.view.Located.the-variants.{Plain, Refused}
-
--- ---- An answer or a refusal
-
-pub judged-passes : (k n place : ℕ) (answer : Answer) → n ≡ 0 → judged k n place answer ≡ answer
-unfolding judged
-judged-passes k n place answer e = ap (λ m. judged k m place answer) e
-
-pub judged-stops : (k n place : ℕ) (answer : Answer) → (n ≡ 0 → ⊥) → judged k n place answer ≡ refuse k n place
-unfolding judged
-judged-stops k zero place answer z = absurd (z refl)
-judged-stops k (suc n) place answer z = refl
+use Rattle.directory.proofs.Rules.{opens-kept}
+use Rattle.directory.proofs.Opens.{opened-find}
+use Rattle.directory.proofs.Named.{found-named}
+use Rattle.storage.specs.Elements.{extendedAt, startAt, elementAt, plainOnly, locatedAt, refusalIn, onPlain}
+use Rattle.storage.specs.declared.element.Element.{Element}
+use Rattle.storage.specs.declared.element.Element.the-variants.{Absent, Plain, Extended}
+use Rattle.storage.specs.declared.element.Located.{Located}
+use Rattle.storage.specs.declared.element.Located.the-variants as located
 
 -- ---- The tests of a slot
 
@@ -52,18 +44,6 @@ module _ (s : List ℕ) (p : ℕ) where
   pub extended-upto : 16384 ≤ tagAt s p → extendedAt s p ≡ leb (tagAt s p) 32767
   unfolding extendedAt
   extended-upto h = simp (extendedAt, le-leb _ _ h)
-
-  pub fault-extended : extendedAt s p ≡ true → plainFault s p ≡ 12
-  unfolding plainFault must
-  fault-extended e = rw e
-
-  pub fault-plain : extendedAt s p ≡ false → plainFault s p ≡ 0
-  unfolding plainFault must
-  fault-plain e = rw e
-
-  pub plain-fault : plainFault s p ≡ 0 → extendedAt s p ≡ false
-  unfolding plainFault
-  plain-fault e = not-true _ (passed _ _ _ e .0)
 
   pub size-lone : baseTag (tagAt s p) ≡ lone-tag → sizeAt s p ≡ 0
   unfolding sizeAt
@@ -117,15 +97,6 @@ slots-between s bytes (suc k) b p h i =
 
 -- ---- The bytes of an element
 
-pub length-part : (s : List ℕ) (at n : ℕ) → at + n ≤ length s → length (part s at n) ≡ n
-unfolding part
-length-part s at n h = length-take-le n (drop at s) (rw length-drop (omega arith))
-
--- a part by its start and its end
-pub part-between : (s : List ℕ) (at n : ℕ) → take (at + n - at) (drop at s) ≡ part s at n
-unfolding part
-part-between s at n = let e : at + n - at ≡ n = omega arith in ap (λ k. take k (drop at s)) e
-
 pub content-part : (s : List ℕ) (p : ℕ) → contentAt s p ≡ part s (startAt s p) (sizeAt s p)
 unfolding contentAt part
 content-part s p =
@@ -133,10 +104,6 @@ content-part s p =
       | inl z ↦ ap (λ n. take n (drop (offsetAt s p) s)) z ∙ sym (ap (λ n. take n (drop (startAt s p) s)) z)
       | inr m ↦ ap (λ a. take (sizeAt s p) (drop a s)) (sym (start-full s p (λ z. suc-ne-zero (m .0) (sym (m .1) ∙ z))))
     ]
-
-pub content-between : (s : List ℕ) (p at n : ℕ) → at ≡ startAt s p → n ≡ sizeAt s p → take (at + n - at) (drop at s) ≡ contentAt s p
-content-between s p at n e f =
-    part-between s at n ∙ ap (λ a. part s a n) e ∙ ap (part s (startAt s p)) f ∙ sym (content-part s p)
 
 -- in an image that opens they lie inside
 module _ (s : List ℕ) (p : ℕ) (sound : openOf s .number ≡ 0) (slot : In p (slotsOf s)) (live : Live s p) where
@@ -153,108 +120,115 @@ module _ (s : List ℕ) (p : ℕ) (sound : openOf s .number ≡ 0) (slot : In p 
   pub length-content : length (contentAt s p) ≡ sizeAt s p
   length-content = ap length (content-part s p) ∙ length-part s (startAt s p) (sizeAt s p) element-inside
 
--- ---- What is located
+-- ---- What is found
 
-pub locate-plain : (s : List ℕ) (p : ℕ) → plainFault s p ≡ 0 → locatedAt s (hit p) ≡ Plain p (startAt s p) (sizeAt s p)
-unfolding locatedAt
-locate-plain s p e = rw (locatedAt, e)
+pub element-plain : (s : List ℕ) (p : ℕ) → extendedAt s p ≡ false → elementAt s (hit p) ≡ Plain p (startAt s p) (sizeAt s p)
+unfolding elementAt
+element-plain s p e = rw (elementAt, e)
 
-pub locate-fault : (s : List ℕ) (p n : ℕ) → plainFault s p ≡ suc n → locatedAt s (hit p) ≡ Refused (record { number = suc n; place = p })
-unfolding locatedAt
-locate-fault s p n e = rw (locatedAt, e)
+pub element-extended : (s : List ℕ) (p : ℕ) → extendedAt s p ≡ true → elementAt s (hit p) ≡ Extended p
+unfolding elementAt
+element-extended s p e = rw (elementAt, e)
 
--- a plain element at what was found
-pub record PlainAt (s : List ℕ) (h : Hit) (p o n : ℕ) : Type 0 where
+-- what is found in a chain of blocks is what is found in the image, if it opened with them
+pub element-opened : (s : List ℕ) (blocks tag ref : ℕ) → Opens s blocks → elementAt s (findIn s blocks tag ref) ≡ elementAt s (find s tag ref)
+element-opened s blocks tag ref o = ap (elementAt s) (opened-find s blocks tag ref o)
+
+pub located-opened : (s : List ℕ) (blocks tag ref : ℕ) → Opens s blocks → locatedAt s (findIn s blocks tag ref) ≡ locatedAt s (find s tag ref)
+located-opened s blocks tag ref o = ap plainOnly (element-opened s blocks tag ref o)
+
+-- an element at what was found
+pub record PlainAt (s : List ℕ) (h : Hit) (p offset size : ℕ) : Type 0 where
   pub found : h ≡ hit p
-  pub plain : plainFault s p ≡ 0
-  pub offset : o ≡ startAt s p
-  pub length : n ≡ sizeAt s p
+  pub plain : extendedAt s p ≡ false
+  pub starts : offset ≡ startAt s p
+  pub holds : size ≡ sizeAt s p
 
-pub located-plain : (s : List ℕ) (found : Hit) (p offset size : ℕ) → locatedAt s found ≡ Plain p offset size → PlainAt s found p offset size
-unfolding locatedAt
-located-plain s miss p offset size e = let z : _≡_ {A = ℕ} 0 1 = cc in absurd (omega arith)
-located-plain s (hit q) p offset size e =
-    elim (zero? (plainFault s q)) [
-      | inl z ↦
-          let r : Plain q (startAt s q) (sizeAt s q) ≡ Plain p offset size = sym (locate-plain s q z) ∙ e in
+pub plain-at : (s : List ℕ) (h : Hit) (p offset size : ℕ) → elementAt s h ≡ Plain p offset size → PlainAt s h p offset size
+unfolding elementAt
+plain-at s miss p offset size e = let z : _≡_ {A = ℕ} 0 1 = cc in absurd (omega arith)
+plain-at s (hit q) p offset size e =
+    elim (test (extendedAt s q)) [
+      | inr x ↦
+          let r : Plain q (startAt s q) (sizeAt s q) ≡ Plain p offset size = sym (element-plain s q x) ∙ e in
           let same : q ≡ p = cc in
           record {
             found = ap hit same;
-            plain = ap (plainFault s) (sym same) ∙ z;
-            offset = let o : startAt s q ≡ offset = cc in sym o ∙ ap (startAt s) same;
-            length = let n : sizeAt s q ≡ size = cc in sym n ∙ ap (sizeAt s) same;
+            plain = ap (extendedAt s) (sym same) ∙ x;
+            starts = let o : startAt s q ≡ offset = cc in sym o ∙ ap (startAt s) same;
+            holds = let n : sizeAt s q ≡ size = cc in sym n ∙ ap (sizeAt s) same;
           }
-      | inr m ↦
-          let r : Refused (record { number = suc (m .0); place = q }) ≡ Plain p offset size = sym (locate-fault s q (m .0) (m .1)) ∙ e in
+      | inl x ↦
+          let r : Extended q ≡ Plain p offset size = sym (element-extended s q x) ∙ e in
           let z : _≡_ {A = ℕ} 0 1 = cc in absurd (omega arith)
     ]
 
--- a refusal there is that of each call that reads plain storage alone
-pub located-refused : (s : List ℕ) (found : Hit) (x : Refusal) → locatedAt s found ≡ Refused x
-    → (k : ℕ) (answer : ℕ → Answer) → inPlain k s answer found ≡ refuse k (x .number) (x .place)
-unfolding locatedAt inPlain
-located-refused s miss x e k answer = ap (λ r. refuse k (refusalIn r .number) (refusalIn r .place)) e
-located-refused s (hit q) x e k answer =
-    elim (zero? (plainFault s q)) [
-      | inl z ↦
-          let r : Plain q (startAt s q) (sizeAt s q) ≡ Refused x = sym (locate-plain s q z) ∙ e in
+pub extended-at : (s : List ℕ) (h : Hit) (p : ℕ) → elementAt s h ≡ Extended p → (h ≡ hit p) × (extendedAt s p ≡ true)
+unfolding elementAt
+extended-at s miss p e = let z : _≡_ {A = ℕ} 0 1 = cc in absurd (omega arith)
+extended-at s (hit q) p e =
+    elim (test (extendedAt s q)) [
+      | inl x ↦
+          let r : Extended q ≡ Extended p = sym (element-extended s q x) ∙ e in
+          let same : q ≡ p = cc in (ap hit same, ap (extendedAt s) (sym same) ∙ x)
+      | inr x ↦
+          let r : Plain q (startAt s q) (sizeAt s q) ≡ Extended p = sym (element-plain s q x) ∙ e in
           let z : _≡_ {A = ℕ} 0 1 = cc in absurd (omega arith)
-      | inr m ↦
-          judged-stops k (plainFault s q) q (answer q) (λ z. suc-ne-zero (m .0) (sym (m .1) ∙ z))
-          ∙ ap (λ n. refuse k n q) (m .1)
-          ∙ ap (λ r. refuse k (refusalIn r .number) (refusalIn r .place)) (sym (locate-fault s q (m .0) (m .1)) ∙ e)
     ]
 
--- no refusal there has the number 0
-pub located-positive : (s : List ℕ) (found : Hit) (x : Refusal) → locatedAt s found ≡ Refused x → x .number ≡ 0 → ⊥
-unfolding locatedAt
-located-positive s miss x e q = suc-ne-zero 10 (ap (λ r. refusalIn r .number) e ∙ q)
-located-positive s (hit p) x e q =
-    elim (zero? (plainFault s p)) [
-      | inl z ↦
-          let r : Plain p (startAt s p) (sizeAt s p) ≡ Refused x = sym (locate-plain s p z) ∙ e in
-          let z : _≡_ {A = ℕ} 0 1 = cc in omega arith
-      | inr m ↦ suc-ne-zero (m .0) (ap (λ r. refusalIn r .number) (sym (locate-fault s p (m .0) (m .1)) ∙ e) ∙ q)
-    ]
+-- in an image that opens its part of the image is whole
+pub record FoundPlain (s : List ℕ) (tag ref p offset size : ℕ) : Type 0 where
+  pub sound : openOf s .number ≡ 0
+  pub is : elementAt s (find s tag ref) ≡ Plain p offset size
+  pub found : find s tag ref ≡ hit p
+  pub plain : extendedAt s p ≡ false
+  pub starts : offset ≡ startAt s p
+  pub holds : size ≡ sizeAt s p
+  pub inside : offset + size ≤ length s
+  pub content : part s offset size ≡ contentAt s p
+  pub long : length (part s offset size) ≡ size
 
-pub plain-goes : (k : ℕ) (s : List ℕ) (answer : ℕ → Answer) (found : Hit) (p : ℕ) → found ≡ hit p → plainFault s p ≡ 0 → inPlain k s answer found ≡ answer p
-unfolding inPlain
-plain-goes k s answer found p e z = ap (inPlain k s answer) e ∙ judged-passes k (plainFault s p) p (answer p) z
+pub found-plain : (s : List ℕ) (tag ref p offset size : ℕ) → openOf s .number ≡ 0 → elementAt s (find s tag ref) ≡ Plain p offset size → FoundPlain s tag ref p offset size
+found-plain s tag ref p offset size sound e =
+    let l = plain-at s (find s tag ref) p offset size e in
+    let m = found-named s tag ref p (l .found) in
+    let inside : offset + size ≤ length s = omega (arith, element-inside s p sound (m .slot) (m .live), l .starts, l .holds) in
+    record {
+      sound = sound;
+      is = e;
+      found = l .found;
+      plain = l .plain;
+      starts = l .starts;
+      holds = l .holds;
+      inside = inside;
+      content = rw (l .starts, l .holds) (sym (content-part s p));
+      long = length-part s offset size inside;
+    }
+
+-- ---- What a call that reads plain storage alone makes of it
+
+pub located-element : (x : Element) (p offset size : ℕ) → plainOnly x ≡ located.Plain p offset size → x ≡ Plain p offset size
+located-element Absent p offset size e = let z : _≡_ {A = ℕ} 0 1 = cc in absurd (omega arith)
+located-element (Plain q o n) p offset size e = cc
+located-element (Extended q) p offset size e = let z : _≡_ {A = ℕ} 0 1 = cc in absurd (omega arith)
+
+-- no refusal has the number 0
+pub located-positive : (x : Element) (r : Refusal) → plainOnly x ≡ located.Refused r → r .number ≡ 0 → ⊥
+located-positive Absent r e z = suc-ne-zero 10 (ap (λ l. refusalIn l .number) e ∙ z)
+located-positive (Plain p o n) r e z = let q : _≡_ {A = ℕ} 0 1 = cc in omega arith
+located-positive (Extended p) r e z = suc-ne-zero 11 (ap (λ l. refusalIn l .number) e ∙ z)
 
 -- a call that is not refused found an element in plain storage
-pub plain-passed : (k : ℕ) (s : List ℕ) (answer : ℕ → Answer) (found : Hit) → inPlain k s answer found .number ≡ 0
-    → (p : ℕ) × (found ≡ hit p) × (plainFault s p ≡ 0)
-unfolding inPlain
-plain-passed k s answer miss e = absurd (suc-ne-zero 10 e)
-plain-passed k s answer (hit p) e =
-    elim (same? (plainFault s p) 0) [
-      | inl z ↦ (p, refl, z)
-      | inr z ↦ absurd (z (ap (λ a. a .number) (sym (judged-stops k (plainFault s p) p (answer p) z)) ∙ e))
-    ]
+pub plain-passed : (k : ℕ) (answer : ℕ → ℕ → ℕ → Answer) (x : Element) → onPlain k answer (plainOnly x) .number ≡ 0
+    → (p : ℕ) × (offset : ℕ) × (size : ℕ) × (x ≡ Plain p offset size)
+plain-passed k answer Absent e = absurd (suc-ne-zero 10 e)
+plain-passed k answer (Plain p offset size) e = (p, offset, size, refl)
+plain-passed k answer (Extended p) e = absurd (suc-ne-zero 11 e)
 
--- an element that a call found is never absent
-pub fault-found : (s : List ℕ) (p : ℕ) → plainFault s p ≡ ABSENT → ⊥
-fault-found s p e =
-    elim (test (extendedAt s p)) [
-      | inl x ↦ let n = fault-extended s p x in omega arith
-      | inr x ↦ let n = fault-plain s p x in omega arith
-    ]
+-- what a function that was handed the element or its refusal answers
+module _ (k : ℕ) (answer : ℕ → ℕ → ℕ → Answer) (l at : Located) (is : l ≡ at) where
+  pub plain-goes : (p offset size : ℕ) → l ≡ located.Plain p offset size → onPlain k answer at ≡ answer p offset size
+  plain-goes p offset size e = ap (onPlain k answer) (sym is ∙ e)
 
-pub missed-number : (s : List ℕ) (x : Refusal) → locatedAt s miss ≡ Refused x → x .number ≡ ABSENT
-unfolding locatedAt
-missed-number s x e = ap (λ r. refusalIn r .number) (sym e)
-
-pub absent-missed : (s : List ℕ) (found : Hit) (x : Refusal) → locatedAt s found ≡ Refused x → x .number ≡ ABSENT → found ≡ miss
-absent-missed s miss x e a = refl
-absent-missed s (hit p) x e a =
-    elim (zero? (plainFault s p)) [
-      | inl z ↦
-          let r : Plain p (startAt s p) (sizeAt s p) ≡ Refused x = sym (locate-plain s p z) ∙ e in
-          let z : _≡_ {A = ℕ} 0 1 = cc in absurd (omega arith)
-      | inr m ↦ absurd (fault-found s p (m .1 ∙ ap (λ r. refusalIn r .number) (sym (locate-fault s p (m .0) (m .1)) ∙ e) ∙ a))
-    ]
-
--- what a call goes on to where an image opens
-pub opened-passed : (k : ℕ) (s : List ℕ) (answer : Answer) → opened k s answer .number ≡ 0 → openOf s .number ≡ 0
-opened-passed k s answer e =
-    elim (same? (openOf s .number) 0) [ inl h ↦ h | inr z ↦ ap (λ a. a .number) (sym (opened-stops k s answer z)) ∙ e ]
+  pub plain-stops : (x : Refusal) → l ≡ located.Refused x → (r : Refusal) → r ≡ refusalIn l → onPlain k answer at ≡ refuse k (r .number) (r .place)
+  plain-stops x e r taken = ap (onPlain k answer) (sym is ∙ e) ∙ ap (λ y. refuse k (y .number) (y .place)) (sym (taken ∙ ap refusalIn e))

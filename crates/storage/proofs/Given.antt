@@ -10,12 +10,15 @@ use mathlib.Core.Bool.{true, not}
 use lib.Dec.{eqb}
 use lib.ListN.{length}
 use borrow.Author.Tests.{leb-true, eqb-false, le-leb, ne-eqb, not-true}
-use Rattle.directory.specs.Search.{Hit, hit, miss}
-use Rattle.directory.specs.Rules.{In, Pairwise}
-use Rattle.directory.proofs.Tests.{zero?, same?, in-left, in-right, in-snoc}
-use Rattle.directory.proofs.Search.{passed, pass, any-none}
-use Rattle.storage.specs.Linked.{linkedAt, isThere, bytesAt, linkedBytes, nextTable, blockRef, tableFault, blockFault, blockBytes, share, blocksFrom, tablesFrom, chainOf}
+use Rattle.answer.specs.Search.{In, Pairwise}
+use Rattle.answer.proofs.Tests.{zero?, same?, in-left, in-right, in-snoc}
+use Rattle.answer.proofs.Search.{passed, pass, any-none}
+use Rattle.storage.specs.Tables.{linkedAt, isThere, linkedBytes, nextTable, blockRef, tableFault, linkedFault, blockBytes}
+use Rattle.storage.specs.Elements.{bytesAt}
+use Rattle.storage.specs.Walks.{share, blocksFrom, tablesFrom, chainOf}
 use Rattle.storage.specs.Given.{entriesOf, blockRefs, given, leftAfter, Sound, Chained, Complete}
+use Rattle.storage.specs.declared.element.Located.{Located}
+use Rattle.storage.specs.declared.element.Located.the-variants.{Plain, Refused}
 use Rattle.storage.specs.declared.linked.Description.{Description}
 use Rattle.storage.proofs.Walks.{share-less, blocks-none, blocks-full, blocks-fault, blocks-next, then-stops, then-goes, tables-full, tables-many, tables-fault, tables-next, tables-finish}
 
@@ -94,7 +97,7 @@ blocks-given s d t (suc k) entry index left e =
             ap (λ x. x .left) w ∙ z ∙ sym (ap (λ n. leftAfter d index n bs) z ∙ left-none d index bs),
             sound-none s d index left bs z,
           )
-      | inr z ↦ elim (zero? (blockFault s (blockRef t entry) (share d index left))) [
+      | inr z ↦ elim (zero? (linkedFault s (blockRef t entry) (share d index left))) [
         | inr m ↦ absurd (suc-ne-zero (m .0) (ap (λ x. x .fault) (sym (blocks-fault s d t entry index left k z (m .0) (m .1))) ∙ e))
         | inl q ↦
             let n = share d index left in
@@ -134,9 +137,9 @@ kept-table s d before ref fresh whole =
     pass _ _ _ (ap not (any-none (eqb ref) before .1 (λ t i. ne-eqb ref t (fresh t i))))
     (pass _ _ _ (there (linkedAt s ref) whole) (pass _ _ _ (le-leb (2 + 2 * d .entries) (length (linkedBytes s ref)) whole) refl))
   where
-    there : (h : Hit) → 2 + 2 * d .entries ≤ length (bytesAt s h) → isThere h ≡ true
-    there (hit p) w = refl
-    there miss w = absurd (omega arith)
+    there : (h : Located) → 2 + 2 * d .entries ≤ length (bytesAt s h) → isThere h ≡ true
+    there (Plain p offset size) w = refl
+    there (Refused r) w = absurd (omega arith)
 
 abbrev Apart : ℕ → ℕ → Type 0
 Apart t u = t ≡ u → ⊥

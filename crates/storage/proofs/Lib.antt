@@ -1,13 +1,12 @@
 pub mod Elements
 pub mod Found
 pub mod Views
-pub mod Plain
 pub mod Choices
-pub mod Records
+pub mod Descriptions
 pub mod Tables
 pub mod Walks
-pub mod Loops
-pub mod Copies
+pub mod Steps
 pub mod Given
+pub mod Copies
 pub mod Claims
 pub mod Cases

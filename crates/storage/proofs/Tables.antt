@@ -1,7 +1,7 @@
 -- The table or block with a reference, and the rules of each from the tests of the code. Assumes nothing.
-use Prim.Native.Nat.{ℕ, suc, _+_, _*_, _<_, _≤_}
+use Prim.Native.Nat.{ℕ, _+_, _*_, _<_, _≤_}
 use native.Mathlib.Omega.{arith}
-use mathlib.Core.Path.{_≡_, refl, sym, ap, _∙_}
+use mathlib.Core.Path.{_≡_, sym, ap, _∙_}
 use mathlib.Core.Logic.{inl, inr}
 use mathlib.Core.List.{List}
 use mathlib.Core.Bool.{true, false, not}
@@ -9,125 +9,76 @@ use lib.Dec.{eqb}
 use lib.ListN.{length, take, drop}
 use lib.Seq.{take-take}
 use borrow.Author.Tests.{le-leb, lt-leb, eq-eqb, ne-eqb}
+use Rattle.answer.specs.Search.{any}
+use Rattle.answer.specs.declared.Refusal.{Refusal}
+use Rattle.answer.proofs.Tests.{same?}
+use Rattle.answer.proofs.Search.{must-holds, must-fails}
 use Rattle.wire.specs.Numbers.{part}
-use Rattle.directory.specs.Search.{any, Hit, hit, miss}
-use Rattle.directory.specs.Slots.{sizeAt, contentAt}
 use Rattle.directory.specs.Opening.{openOf}
-use Rattle.directory.specs.Lookup.{find}
-use Rattle.directory.specs.declared.Refusal.{Refusal}
-use Rattle.directory.proofs.Tests.{zero?, same?}
-use Rattle.directory.proofs.Search.{must-holds, must-fails}
-use Rattle.directory.proofs.Named.{found-named}
+use Rattle.directory.specs.Lookup.{find, findIn}
+use Rattle.directory.specs.Steps.Opens.{Opens}
+use Rattle.directory.proofs.Opens.{opened-find}
 use Rattle.storage.specs.Limits.{linked-tag}
-use Rattle.storage.specs.Elements.{startAt, plainFault}
-use Rattle.storage.specs.View.{locatedAt}
-use Rattle.storage.specs.Linked.{plainHit, linkedAt, isThere, linkedBytes, tableFault, blockFault, blockBytes}
-use Rattle.storage.specs.Steps.{standsAt}
-use Rattle.storage.specs.declared.view.Located.the-variants.{Plain, Refused}
+use Rattle.storage.specs.Elements.{plainOnly, locatedAt, bytesAt}
+use Rattle.storage.specs.Tables.{linkedAt, isThere, linkedBytes, tableFault, linkedFault, blockBytes}
+use Rattle.storage.specs.declared.element.Element.the-variants.{Absent}
+use Rattle.storage.specs.declared.element.Located.{Located}
+use Rattle.storage.specs.declared.element.Located.the-variants.{Plain, Refused}
 use Rattle.storage.specs.declared.linked.Description.{Description}
-use Rattle.storage.specs.declared.linked.Linked.the-variants.{Part, Nothing}
-use Rattle.storage.proofs.Elements.{located-plain, locate-plain, content-part, element-inside, length-content}
+use Rattle.storage.proofs.Elements.{found-plain, located-element}
 
 -- ---- The table or block with a reference
 
-pub linked-zero : (s : List ℕ) (ref : ℕ) → ref ≡ 0 → linkedAt s ref ≡ miss
+pub linked-zero : (s : List ℕ) (ref : ℕ) → ref ≡ 0 → linkedAt s ref ≡ plainOnly Absent
 unfolding linkedAt
 linked-zero s ref e = simp (linkedAt, eq-eqb _ _ e)
 
-linked-find : (s : List ℕ) (ref : ℕ) → (ref ≡ 0 → ⊥) → linkedAt s ref ≡ plainHit s (find s linked-tag ref)
+linked-find : (s : List ℕ) (ref : ℕ) → (ref ≡ 0 → ⊥) → linkedAt s ref ≡ locatedAt s (find s linked-tag ref)
 unfolding linkedAt
 linked-find s ref z = simp (linkedAt, ne-eqb _ _ z)
 
-plain-hit : (s : List ℕ) (p : ℕ) → plainFault s p ≡ 0 → plainHit s (hit p) ≡ hit p
-plain-hit s p e = rw (e, plainHit)
+-- what is found in an image that opened
+pub linked-found : (s : List ℕ) (blocks ref : ℕ) → Opens s blocks → (ref ≡ 0 → ⊥) → (r : Located) → r ≡ locatedAt s (findIn s blocks linked-tag ref) → r ≡ linkedAt s ref
+linked-found s blocks ref o z r is = is ∙ ap (locatedAt s) (opened-find s blocks linked-tag ref o) ∙ sym (linked-find s ref z)
 
-plain-miss : (s : List ℕ) (p n : ℕ) → plainFault s p ≡ suc n → plainHit s (hit p) ≡ miss
-plain-miss s p n e = rw (e, plainHit)
-
-plain-located : (s : List ℕ) (h : Hit) (p offset size : ℕ) → locatedAt s h ≡ Plain p offset size → standsAt s (plainHit s h) ≡ Part offset size
-plain-located s h p offset size e =
-    let l = located-plain s h p offset size e in
-    ap (λ x. standsAt s (plainHit s x)) (l .found) ∙ ap (standsAt s) (plain-hit s p (l .plain)) ∙ rw (l .offset, l .length)
-
-plain-refused : (s : List ℕ) (h : Hit) (x : Refusal) → locatedAt s h ≡ Refused x → plainHit s h ≡ miss
-plain-refused s miss x e = refl
-plain-refused s (hit p) x e =
-    elim (zero? (plainFault s p)) [
-      | inl z ↦
-          let r : Plain p (startAt s p) (sizeAt s p) ≡ Refused x = sym (locate-plain s p z) ∙ e in
-          let z : _≡_ {A = ℕ} 0 1 = cc in absurd (omega arith)
-      | inr m ↦ plain-miss s p (m .0) (m .1)
-    ]
-
-module _ (s : List ℕ) (ref : ℕ) (named : ref ≡ 0 → ⊥) where
-  pub linked-located : (p offset size : ℕ) → locatedAt s (find s linked-tag ref) ≡ Plain p offset size → standsAt s (linkedAt s ref) ≡ Part offset size
-  linked-located p offset size e = ap (standsAt s) (linked-find s ref named) ∙ plain-located s (find s linked-tag ref) p offset size e
-
-  pub linked-refused : (x : Refusal) → locatedAt s (find s linked-tag ref) ≡ Refused x → standsAt s (linkedAt s ref) ≡ Nothing
-  linked-refused x e = ap (standsAt s) (linked-find s ref named ∙ plain-refused s (find s linked-tag ref) x e)
-
--- what is known of a table or a block that is there
+-- what is known of one that is there
 pub record There (s : List ℕ) (ref offset size : ℕ) : Type 0 where
   pub there : isThere (linkedAt s ref) ≡ true
   pub inside : offset + size ≤ length s
   pub bytes : linkedBytes s ref ≡ part s offset size
   pub holds : length (linkedBytes s ref) ≡ size
 
--- its slot is that of a lookup
-pub linked-hit : (s : List ℕ) (ref p : ℕ) → linkedAt s ref ≡ hit p → (find s linked-tag ref ≡ hit p) × (plainFault s p ≡ 0)
-linked-hit s ref p e =
-    elim (same? ref 0) [
-      | inl z ↦ let q : miss ≡ hit p = sym (linked-zero s ref z) ∙ e in let z : _≡_ {A = ℕ} 0 1 = cc in absurd (omega arith)
-      | inr z ↦ go (find s linked-tag ref) (sym (linked-find s ref z) ∙ e)
-    ]
+pub linked-there : (s : List ℕ) (ref p offset size : ℕ) → openOf s .number ≡ 0 → (r : Located) → r ≡ linkedAt s ref → r ≡ Plain p offset size → There s ref offset size
+unfolding linkedBytes
+linked-there s ref p offset size sound r is e = go (sym is ∙ e)
   where
-    go : (h : Hit) → plainHit s h ≡ hit p → (h ≡ hit p) × (plainFault s p ≡ 0)
-    go miss q = let z : _≡_ {A = ℕ} 0 1 = cc in absurd (omega arith)
-    go (hit p₂) q =
-        elim (zero? (plainFault s p₂)) [
-          | inl z ↦ let r : hit p₂ ≡ hit p = sym (plain-hit s p₂ z) ∙ q in let same : p₂ ≡ p = cc in (r, ap (plainFault s) (sym same) ∙ z)
-          | inr m ↦ let r : miss ≡ hit p = sym (plain-miss s p₂ (m .0) (m .1)) ∙ q in let z : _≡_ {A = ℕ} 0 1 = cc in absurd (omega arith)
+    go : linkedAt s ref ≡ Plain p offset size → There s ref offset size
+    go q =
+        elim (same? ref 0) [
+          | inl z ↦ let a : plainOnly Absent ≡ Plain p offset size = sym (linked-zero s ref z) ∙ q in let z : _≡_ {A = ℕ} 0 1 = cc in absurd (omega arith)
+          | inr z ↦
+              let f = found-plain s linked-tag ref p offset size sound (located-element _ _ _ _ (sym (linked-find s ref z) ∙ q)) in
+              let b : linkedBytes s ref ≡ part s offset size = ap (bytesAt s) q in
+              record { there = ap isThere q; inside = f .inside; bytes = b; holds = ap length b ∙ f .long }
         ]
 
-pub linked-there : (s : List ℕ) (ref offset size : ℕ) → openOf s .number ≡ 0 → standsAt s (linkedAt s ref) ≡ Part offset size → There s ref offset size
-unfolding linkedBytes
-linked-there s ref offset size sound e = go (linkedAt s ref) refl e
-  where
-    go : (h : Hit) → linkedAt s ref ≡ h → standsAt s h ≡ Part offset size → There s ref offset size
-    go miss f q = let z : _≡_ {A = ℕ} 0 1 = cc in absurd (omega arith)
-    go (hit p) f q =
-        let n = found-named s linked-tag ref p (linked-hit s ref p f .0) in
-        let start : startAt s p ≡ offset = cc in
-        let holds : sizeAt s p ≡ size = cc in
-        let content : linkedBytes s ref ≡ contentAt s p = rw (linkedBytes, f) in
-        record {
-          there = rw f;
-          inside = omega (arith, element-inside s p sound (n .slot) (n .live));
-          bytes = content ∙ content-part s p ∙ rw (start, holds);
-          holds = ap length content ∙ length-content s p sound (n .slot) (n .live) ∙ holds;
-        }
-
-pub linked-nothing : (s : List ℕ) (ref : ℕ) → standsAt s (linkedAt s ref) ≡ Nothing → isThere (linkedAt s ref) ≡ false
-linked-nothing s ref e = go (linkedAt s ref) e
-  where
-    go : (h : Hit) → standsAt s h ≡ Nothing → isThere h ≡ false
-    go miss q = refl
-    go (hit p) q = let z : _≡_ {A = ℕ} 0 1 = cc in absurd (omega arith)
+pub linked-nothing : (s : List ℕ) (ref : ℕ) (r : Located) → r ≡ linkedAt s ref → (x : Refusal) → r ≡ Refused x → isThere (linkedAt s ref) ≡ false
+linked-nothing s ref r is x e = ap isThere (sym is ∙ e)
 
 -- ---- The rules of a block
 
 module _ (s : List ℕ) (ref count : ℕ) where
-  pub block-absent : isThere (linkedAt s ref) ≡ false → blockFault s ref count ≡ 13
-  unfolding blockFault
+  pub block-absent : isThere (linkedAt s ref) ≡ false → linkedFault s ref count ≡ 13
+  unfolding linkedFault
   block-absent h = must-fails _ _ _ h
 
   module _ (offset size : ℕ) (t : There s ref offset size) where
-    pub block-short : size < count → blockFault s ref count ≡ 13
-    unfolding blockFault
+    pub block-short : size < count → linkedFault s ref count ≡ 13
+    unfolding linkedFault
     block-short h = must-holds _ _ _ (t .there) ∙ must-fails _ _ _ (lt-leb count (length (linkedBytes s ref)) (omega (arith, t .holds)))
 
-    pub block-none : count ≤ size → blockFault s ref count ≡ 0
-    unfolding blockFault
+    pub block-none : count ≤ size → linkedFault s ref count ≡ 0
+    unfolding linkedFault
     block-none h = must-holds _ _ _ (t .there) ∙ must-holds _ _ _ (le-leb count (length (linkedBytes s ref)) (omega (arith, t .holds)))
 
     pub block-gives : count ≤ size → blockBytes s ref count ≡ part s offset count

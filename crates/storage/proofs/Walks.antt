@@ -9,9 +9,10 @@ use lib.Dec.{eqb}
 use lib.ListN.{length, length-append}
 use lib.Seq.{length-take-le}
 use borrow.Author.Tests.{leb-true, eqb-true, eq-eqb, ne-eqb}
-use Rattle.directory.proofs.Tests.{zero?, same?}
-use Rattle.directory.proofs.Search.{must-holds, must-fails, passed}
-use Rattle.storage.specs.Linked.{linkedBytes, nextTable, blockRef, tableFault, blockFault, blockBytes, share, Walk, stop, joined, andThen, blocksFrom, tablesFrom, chainOf}
+use Rattle.answer.proofs.Tests.{zero?, same?}
+use Rattle.answer.proofs.Search.{must-holds, must-fails, passed}
+use Rattle.storage.specs.Tables.{linkedBytes, nextTable, blockRef, tableFault, linkedFault, blockBytes}
+use Rattle.storage.specs.Walks.{share, Walk, stop, joined, andThen, blocksFrom, tablesFrom, chainOf}
 use Rattle.storage.specs.declared.linked.Description.{Description}
 
 -- ---- One block further
@@ -41,19 +42,19 @@ module _ (s : List ℕ) (d : Description) (t : List ℕ) (entry index left : ℕ
   blocks-full (suc k) e = simp (blocksFrom, eq-eqb left 0 e)
 
   module _ (k : ℕ) (more : left ≡ 0 → ⊥) where
-    pub blocks-fault : (f : ℕ) → blockFault s (blockRef t entry) (share d index left) ≡ suc f → blocksFrom s d t (suc k) entry index left ≡ stop (suc f) left
+    pub blocks-fault : (f : ℕ) → linkedFault s (blockRef t entry) (share d index left) ≡ suc f → blocksFrom s d t (suc k) entry index left ≡ stop (suc f) left
     unfolding blocksFrom
     blocks-fault f h = simp (blocksFrom, ne-eqb left 0 more, h)
 
-    pub blocks-next : blockFault s (blockRef t entry) (share d index left) ≡ 0
+    pub blocks-next : linkedFault s (blockRef t entry) (share d index left) ≡ 0
         → blocksFrom s d t (suc k) entry index left
         ≡ joined (blockBytes s (blockRef t entry) (share d index left)) (blocksFrom s d t k (entry + 1) (index + 1) (left - share d index left))
     unfolding blocksFrom
     blocks-next h = simp (blocksFrom, ne-eqb left 0 more, h)
 
 -- a block without fault has the bytes that are taken
-block-passed : (s : List ℕ) (ref count : ℕ) → blockFault s ref count ≡ 0 → length (blockBytes s ref count) ≡ count
-unfolding blockFault blockBytes
+block-passed : (s : List ℕ) (ref count : ℕ) → linkedFault s ref count ≡ 0 → length (blockBytes s ref count) ≡ count
+unfolding linkedFault blockBytes
 block-passed s ref count e =
     let h = passed _ _ _ (passed _ _ _ e .1) in
     length-take-le count (linkedBytes s ref) (leb-true _ _ (h .0))
@@ -65,7 +66,7 @@ blocks-total s d t zero entry index left = rw (blocks-none s d t entry index lef
 blocks-total s d t (suc k) entry index left =
     elim (same? left 0) [
       | inl z ↦ rw (blocks-full s d t entry index left (suc k) z) (omega arith)
-      | inr z ↦ elim (zero? (blockFault s (blockRef t entry) (share d index left))) [
+      | inr z ↦ elim (zero? (linkedFault s (blockRef t entry) (share d index left))) [
         | inr m ↦ rw (blocks-fault s d t entry index left k z (m .0) (m .1)) (omega arith)
         | inl e ↦
             let n = share d index left in

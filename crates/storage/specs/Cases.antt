@@ -2,7 +2,8 @@
 use Prim.Native.Nat.{ℕ}
 use mathlib.Core.List.{List, [], _∷_}
 use Rattle.wire.specs.Numbers.{bytes, put}
-use Rattle.storage.specs.Copy.{Stored, storedAt}
+use Rattle.directory.specs.Slots.{contentAt}
+use Rattle.storage.specs.Copies.{Stored, inBlocks}
 
 -- file L: the element 100/1 is extended, "abcdef" in three blocks, of which the first table names two and the second one
 unfoldable pub L : List ℕ
@@ -27,22 +28,22 @@ L =
 
 -- ---- Rows
 
-pub record Row : Type 0 where
+pub record WorkedRow : Type 0 where
   pub computed : List ℕ
   pub expected : List ℕ
 
 -- the first rule that its record breaks, its length, the first fault of its chain, and the bytes before that
-unfoldable pub numbers : Stored → List ℕ
-numbers x = x .record-fault ∷ x .size ∷ x .chain-fault ∷ x .bytes
+unfoldable pub storedNumbers : Stored → List ℕ
+storedNumbers x = x .record-fault ∷ x .size ∷ x .chain-fault ∷ x .bytes
 
--- the element of the slot at 10
-abbrev pub reading : List ℕ → List ℕ → Row
-reading s expected = record { computed = numbers (storedAt s 10); expected = expected }
+-- the extended element of the slot at 10
+abbrev pub reading : List ℕ → List ℕ → WorkedRow
+reading s expected = record { computed = storedNumbers (inBlocks s (contentAt s 10)); expected = expected }
 
 -- ---- Cases
 
-unfoldable pub table : List Row
-table =
+unfoldable pub workedCases : List WorkedRow
+workedCases =
     -- the six bytes
     reading L (0 ∷ 6 ∷ 0 ∷ 97 ∷ 98 ∷ 99 ∷ 100 ∷ 101 ∷ 102 ∷ [])
     -- length 4 and no second table: the second block gives one byte, and no more is judged

@@ -1,16 +1,19 @@
--- How the element of a slot is stored, and the calls that read plain storage alone, after document 01, "Reading elements".
--- Assumes nothing.
+-- What a tag and a reference name in an image, after document 01, "Reading elements": the one way to an element. Assumes nothing.
 use Prim.Native.Nat.{ℕ, zero, suc}
-use mathlib.Core.List.{List}
-use mathlib.Core.Bool.{Bool, not, _&&_}
+use mathlib.Core.List.{List, []}
+use mathlib.Core.Bool.{Bool, true, false, _&&_}
 use lib.Dec.{leb}
-use Rattle.directory.specs.Limits.{extended-first, extended-last, ABSENT}
-use Rattle.directory.specs.Answer.{Answer, refuse}
-use Rattle.directory.specs.Search.{must, Hit, hit, miss}
+use Rattle.answer.specs.Refusals.{ABSENT, STORAGE}
+use Rattle.answer.specs.Search.{Hit, hit, miss}
+use Rattle.answer.specs.Answer.{Answer, refuse}
+use Rattle.answer.specs.declared.Refusal.{Refusal}
+use Rattle.wire.specs.Numbers.{part}
+use Rattle.directory.specs.Limits.{extended-first, extended-last}
 use Rattle.directory.specs.Slots.{tagAt, offsetAt, sizeAt}
-use Rattle.directory.specs.Opening.{opened}
-use Rattle.directory.specs.Lookup.{find}
-use Rattle.storage.specs.Limits.{STORAGE}
+use Rattle.storage.specs.declared.element.Element.{Element}
+use Rattle.storage.specs.declared.element.Element.the-variants.{Absent, Plain, Extended}
+use Rattle.storage.specs.declared.element.Located.{Located}
+use Rattle.storage.specs.declared.element.Located.the-variants as located
 
 -- an element is extended, and not in plain storage, by the tag of its slot
 unfoldable pub extendedAt : List ℕ → ℕ → Bool
@@ -20,20 +23,36 @@ extendedAt s p = leb extended-first (tagAt s p) && leb (tagAt s p) extended-last
 unfoldable pub startAt : List ℕ → ℕ → ℕ
 startAt s p = elim (sizeAt s p) [ zero ↦ 0 | suc n ↦ offsetAt s p ]
 
--- what a call that answers k values comes to at a place: a refusal by the number of the first rule broken, else what it goes on to
-unfoldable pub judged : ℕ → ℕ → ℕ → Answer → Answer
-judged k zero place answer = answer
-judged k (suc number) place answer = refuse k (suc number) place
+-- what is at the slot that a lookup found, if it found one
+unfoldable pub elementAt : List ℕ → Hit → Element
+elementAt s (hit p) = elim (extendedAt s p) [ false ↦ Plain p (startAt s p) (sizeAt s p) | true ↦ Extended p ]
+elementAt s miss = Absent
 
--- the number of the first rule by which a call that reads plain storage alone refuses the slot's element, 0 where it reads it
-unfoldable pub plainFault : List ℕ → ℕ → ℕ
-plainFault s p = must (not (extendedAt s p)) STORAGE 0
+abbrev pub isAbsent : Element → Bool
+isAbsent Absent = true
+isAbsent (Plain p offset size) = false
+isAbsent (Extended p) = false
 
--- such a call, of k values, at what a lookup found: what it goes on to at the slot
-unfoldable pub inPlain : ℕ → List ℕ → (ℕ → Answer) → Hit → Answer
-inPlain k s answer (hit p) = judged k (plainFault s p) p (answer p)
-inPlain k s answer miss = refuse k ABSENT 0
+-- what a call that reads plain storage alone makes of it: 11, 12, or the element
+abbrev pub plainOnly : Element → Located
+plainOnly Absent = located.Refused (record { number = ABSENT; place = 0 })
+plainOnly (Plain p offset size) = located.Plain p offset size
+plainOnly (Extended p) = located.Refused (record { number = STORAGE; place = p })
 
--- such a call on an image: opening, then the lookup, then the storage, then what it goes on to at the slot
-abbrev pub readPlain : ℕ → List ℕ → ℕ → ℕ → (ℕ → Answer) → Answer
-readPlain k s tag ref answer = opened k s (inPlain k s answer (find s tag ref))
+abbrev pub locatedAt : List ℕ → Hit → Located
+locatedAt s found = plainOnly (elementAt s found)
+
+-- its bytes; none where it is not located
+abbrev pub bytesAt : List ℕ → Located → List ℕ
+bytesAt s (located.Plain p offset size) = part s offset size
+bytesAt s (located.Refused x) = []
+
+-- what is taken from an element that was not located
+abbrev pub refusalIn : Located → Refusal
+refusalIn (located.Plain p offset size) = record { number = 0; place = 0 }
+refusalIn (located.Refused x) = x
+
+-- what such a call, of k values, answers: the refusal, or what it goes on to at the slot, the offset and the length
+abbrev pub onPlain : ℕ → (ℕ → ℕ → ℕ → Answer) → Located → Answer
+onPlain k answer (located.Plain p offset size) = answer p offset size
+onPlain k answer (located.Refused x) = refuse k (x .number) (x .place)

@@ -4,9 +4,10 @@ use Prim.Native.Nat.{ℕ, zero, suc, _+_, _*_, _-_, _<_, _≤_}
 use mathlib.Core.Path.{_≡_}
 use mathlib.Core.List.{List, [], _∷_, _++_}
 use lib.ListN.{length}
-use Rattle.directory.specs.Rules.{In, Pairwise}
+use Rattle.answer.specs.Search.{In, Pairwise}
 use Rattle.storage.specs.Limits.{most-tables}
-use Rattle.storage.specs.Linked.{linkedBytes, nextTable, blockRef, blockFault, blockBytes, share}
+use Rattle.storage.specs.Tables.{linkedBytes, nextTable, blockRef, linkedFault, blockBytes}
+use Rattle.storage.specs.Walks.{share}
 use Rattle.storage.specs.declared.linked.Description.{Description}
 
 -- the references of the blocks that k entries of a table name, from an entry on
@@ -32,7 +33,7 @@ leftAfter d index left (b ∷ bs) = leftAfter d (index + 1) (left - share d inde
 -- every block of which bytes are taken breaks no rule
 abbrev pub Sound : List ℕ → Description → ℕ → ℕ → List ℕ → Type 0
 Sound s d index left [] = Unit {0}
-Sound s d index left (b ∷ bs) = (0 < left → blockFault s b (share d index left) ≡ 0) × Sound s d (index + 1) (left - share d index left) bs
+Sound s d index left (b ∷ bs) = (0 < left → linkedFault s b (share d index left) ≡ 0) × Sound s d (index + 1) (left - share d index left) bs
 
 -- the first of the tables has a reference, and each names the next
 abbrev pub Chained : List ℕ → ℕ → List ℕ → Type 0

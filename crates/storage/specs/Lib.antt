@@ -1,9 +1,11 @@
 pub mod Limits
 pub mod Elements
-pub mod View
-pub mod Linked
+pub mod Views
+pub mod Choices
+pub mod Descriptions
+pub mod Tables
+pub mod Walks
 pub mod Given
-pub mod Copy
-pub mod Choose
+pub mod Copies
 pub mod Steps
 pub mod Cases

@@ -1,7 +1,5 @@
--- Numbers that document 01 fixes for reading elements, each named once: linked blocks, and the refusal numbers of its table. Assumes nothing.
+-- Numbers that document 01 fixes for reading elements, each named once: linked blocks. Assumes nothing.
 use Prim.Native.Nat.{ℕ}
-
--- ---- Linked blocks
 
 -- the tag of tables and blocks
 abbrev pub linked-tag : ℕ
@@ -19,11 +17,3 @@ record-bytes = 22
 
 abbrev pub most-tables : ℕ
 most-tables = 256
-
--- ---- Refusal numbers
-
-abbrev pub STORAGE : ℕ
-STORAGE = 12
-
-abbrev pub CHAIN : ℕ
-CHAIN = 13

@@ -1,26 +1,25 @@
 // An element in linked blocks: its record, the tables that it leads to, and the blocks that they name. Tables and blocks are looked up
 // in the image's data descriptor blocks, of which there are so many as the parameter `blocks` says.
-use super::Copied;
+use super::element;
+use super::element::Element;
+use super::element::Located;
 use super::format::KIND_BYTES;
 use super::format::LINKED_KIND;
 use super::format::LINKED_TAG;
 use super::format::MOST_TABLES;
 use super::format::RECORD_BYTES;
-use super::refusals::CHAIN;
-use super::refusals::STORAGE;
-use super::view::Located;
-use directory::Refusal;
-use directory::refusals::SMALL;
+use answer::refusals::CHAIN;
+use answer::refusals::STORAGE;
 ghost use mathlib.Core.Path.{_≡_};
 ghost use Prim.Native.Nat.{_-_, _≤_};
 ghost use lib.Dec.{eqb};
 ghost use lib.ListN.{length, take};
-ghost use Rattle.directory.specs.Search.{any};
-ghost use Rattle.directory.specs.Slots.{slotsOf, contentAt};
-ghost use Rattle.directory.specs.Rules.{In, Live};
-ghost use Rattle.storage.specs.Linked.{recordFault, linkedAt, share, blocksFrom, chainOf};
-ghost use Rattle.storage.specs.Copy.{inBlocks, copyAt, Copies};
-ghost use Rattle.storage.specs.Steps.{Opens, Small, Describes, standsAt, Reached, Took, Followed};
+ghost use Rattle.answer.specs.Search.{any};
+ghost use Rattle.storage.specs.Descriptions.{recordFault};
+ghost use Rattle.storage.specs.Tables.{linkedAt};
+ghost use Rattle.storage.specs.Walks.{share, blocksFrom, chainOf};
+ghost use Rattle.directory.specs.Steps.Opens.{Opens};
+ghost use Rattle.storage.specs.Steps.{InRange, Describes, Reached, Took, Followed};
 
 // The fields of a record: how many bytes the element has, its first block (first_len) and each later one (blk_len), how many blocks a
 // table has (num_blk), and the reference of the first table (link_ref).
@@ -32,19 +31,13 @@ pub struct Description {
     pub table: u16,
 }
 
-// Where the bytes of a table or a block stand.
-pub enum Linked {
-    Part { offset: usize, length: usize },
-    Nothing,
-}
-
 // What a table came to: how many bytes are left to copy, and the number of the first fault, 0 where there is none.
 pub struct Taken {
     pub left: usize,
     pub fault: usize,
 }
 
-fn read_description(bytes: &[u8]) -> Description
+pub(crate) fn read_description(bytes: &[u8]) -> Description
     ensures { λ r. ⌜ Describes (now (bytes .entry)) r ⌝ }
 {
     Description {
@@ -57,7 +50,7 @@ fn read_description(bytes: &[u8]) -> Description
 }
 
 // The number of the first rule that the bytes of an extended element break as a record, 0 where they break none.
-fn record_fault(bytes: &[u8]) -> usize
+pub(crate) fn record_fault(bytes: &[u8]) -> usize
     ensures { λ r. ⌜ r ≡ recordFault (now (bytes .entry)) ⌝ }
 {
     if bytes.len() < KIND_BYTES {
@@ -82,22 +75,15 @@ fn record_fault(bytes: &[u8]) -> usize
     0
 }
 
-// The table or block with a reference.
-fn find_linked(image: &[u8], blocks: usize, reference: u16) -> Linked
+// The table or block with a reference; a reference of 0 names none.
+fn find_linked(image: &[u8], blocks: usize, reference: u16) -> Located
     requires { ⌜ Opens (now image) blocks ⌝ }
-    ensures { λ r. ⌜ r ≡ standsAt (now (image .entry)) (linkedAt (now (image .entry)) reference) ⌝ }
+    ensures { λ r. ⌜ r ≡ linkedAt (now (image .entry)) reference ⌝ }
 {
     if reference == 0 {
-        return Linked::Nothing;
+        return element::plain(Element::Absent);
     }
-    match super::view::locate(image, blocks, LINKED_TAG, reference) {
-        Located::Refused(_) => Linked::Nothing,
-        Located::Plain {
-            slot: _,
-            offset,
-            length,
-        } => Linked::Part { offset, length },
-    }
+    element::locate(image, blocks, LINKED_TAG, reference)
 }
 
 // How many bytes the block of an index gives where so many are left.
@@ -135,8 +121,9 @@ fn take_blocks(
     missing: usize,
     out: &mut [u8],
 ) -> Taken
-    requires { ⌜ Opens (now image) blocks × Small d × Reached d first missing ⌝ }
-    ensures { λ r. ⌜ Took (blocksFrom (now (image .entry)) d (now (table .entry)) (d .entries) 0 first missing) (d .length - missing) (now (out .entry)) (now (out .exit)) r ⌝ }
+    requires { ⌜ Opens (now image) blocks × InRange d × Reached d first missing ⌝ }
+    ensures { λ r. ⌜ Took (blocksFrom (now (image .entry)) d (now (table .entry)) (d .entries) 0 first missing) (d .length - missing)
+        (now (out .entry)) (now (out .exit)) r ⌝ }
 {
     let mut left = missing;
     let mut entry = 0;
@@ -146,13 +133,18 @@ fn take_blocks(
         }
         let share = share_of(d, first + entry, left);
         let reference = wire::read16(table, 2 + 2 * entry) as u16;
-        let Linked::Part { offset, length } = find_linked(image, blocks, reference) else {
+        let Located::Plain {
+            slot: _,
+            offset,
+            length,
+        } = find_linked(image, blocks, reference)
+        else {
             return Taken { left, fault: CHAIN };
         };
         if length < share {
             return Taken { left, fault: CHAIN };
         }
-        wire::write_bytes(out, d.length - left, &image[offset..offset + share]);
+        wire::write_bytes(out, d.length - left, wire::part(image, offset, share));
         left -= share;
         entry += 1;
     }
@@ -161,8 +153,8 @@ fn take_blocks(
 
 // Copies what the blocks of all tables give to the front of a buffer, as far as it reaches, up to the first fault: its number, 0 where
 // there is none.
-fn follow(image: &[u8], blocks: usize, d: Description, out: &mut [u8]) -> usize
-    requires { ⌜ Opens (now image) blocks × Small d ⌝ }
+pub(crate) fn follow(image: &[u8], blocks: usize, d: Description, out: &mut [u8]) -> usize
+    requires { ⌜ Opens (now image) blocks × InRange d ⌝ }
     ensures { λ r. ⌜ Followed (chainOf (now (image .entry)) d) (now (out .entry)) (now (out .exit)) r ⌝ }
 {
     // The references of the tables walked so far.
@@ -178,13 +170,18 @@ fn follow(image: &[u8], blocks: usize, d: Description, out: &mut [u8]) -> usize
         if seen(&tables, count, reference) {
             return CHAIN;
         }
-        let Linked::Part { offset, length } = find_linked(image, blocks, reference) else {
+        let Located::Plain {
+            slot: _,
+            offset,
+            length,
+        } = find_linked(image, blocks, reference)
+        else {
             return CHAIN;
         };
-        if length < 2 + 2 * d.entries {
+        let table = wire::part(image, offset, length);
+        if table.len() < 2 + 2 * d.entries {
             return CHAIN;
         }
-        let table = &image[offset..offset + length];
         let taken = take_blocks(image, blocks, d, table, index, left, out);
         if taken.fault != 0 {
             return taken.fault;
@@ -196,38 +193,4 @@ fn follow(image: &[u8], blocks: usize, d: Description, out: &mut [u8]) -> usize
         left = taken.left;
     }
     0
-}
-
-// Copies the bytes of the extended element of the slot at p to the front of a buffer. All is judged first, by a walk that has no buffer
-// to write to.
-pub(crate) fn copy(image: &[u8], blocks: usize, p: usize, out: &mut [u8]) -> Copied
-    requires { ⌜ Opens (now image) blocks × In p (slotsOf (now image)) × Live (now image) p ⌝ }
-    ensures { λ r. ⌜ Copies (copyAt (length (now (out .entry))) p (inBlocks (now (image .entry)) (contentAt (now (image .entry)) p))) (inBlocks (now (image .entry)) (contentAt (now (image .entry)) p) .bytes) (now (out .entry)) (now (out .exit)) r ⌝ }
-{
-    let offset = super::view::start(image, p);
-    let length = super::view::size(image, p);
-    let record = &image[offset..offset + length];
-    let broken = record_fault(record);
-    if broken != 0 {
-        return Copied::Refused(Refusal {
-            number: broken,
-            place: p,
-        });
-    }
-    let d = read_description(record);
-    if out.len() < d.length {
-        return Copied::Refused(Refusal {
-            number: SMALL,
-            place: 0,
-        });
-    }
-    let fault = follow(image, blocks, d, &mut out[..0]);
-    if fault != 0 {
-        return Copied::Refused(Refusal {
-            number: fault,
-            place: p,
-        });
-    }
-    follow(image, blocks, d, out);
-    Copied::Bytes(d.length)
 }

@@ -1,5 +1,3 @@
-pub mod Patterned
-pub mod Nans
-pub mod Less
-pub mod Valuing
+pub mod Patterns
+pub mod Values
 pub mod ValueClaims

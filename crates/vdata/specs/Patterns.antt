@@ -6,7 +6,7 @@ use lib.Dec.{eqb, ltb}
 use lib.IntN.{ℤ, pos, negsuc, _-ℤ_}
 use lib.Ieee.{binary32, binary64, ofBits, toBits, nanBits}
 use Rattle.wire.specs.Numbers.{be}
-use Rattle.vhead.specs.Types.{Kind, signed, unsigned, float, widthOf, kindOf}
+use Rattle.records.specs.Types.{Kind, signed, unsigned, float, widthOf, kindOf}
 use Rattle.vdata.specs.declared.value.Value.{Value}
 use Rattle.vdata.specs.declared.value.Value.the-variants.{Signed, Unsigned, Float32, Float64, Nan32, Nan64}
 

@@ -2,19 +2,17 @@
 use Prim.Native.Nat.{ℕ, zero, suc, _+_, _*_}
 use mathlib.Core.Path.{_≡_}
 use mathlib.Core.List.{List, [], _∷_}
-use mathlib.Core.Bool.{Bool, true, false, _&&_}
 use lib.ListN.{length}
 use lib.Dec.{ltb, leb}
-use Rattle.directory.specs.Answer.{Answer, grant, refuse}
-use Rattle.directory.specs.Search.{must}
-use Rattle.directory.specs.Slots.{contentAt}
+use Rattle.answer.specs.Answer.{Answer, grant, refuse, unless}
+use Rattle.answer.specs.Search.{must, Hit}
+use Rattle.answer.specs.Refusals.{RECORD, NO-VALUE}
+use Rattle.directory.specs.Opening.{opened}
 use Rattle.directory.specs.Lookup.{find}
-use Rattle.storage.specs.Elements.{judged, inPlain}
-use Rattle.records.specs.Limits.{RECORD}
-use Rattle.records.specs.Reading.{recordOf}
+use Rattle.records.specs.Readings.{recordAt}
 use Rattle.vhead.specs.Limits.{head-tag}
-use Rattle.vdata.specs.Limits.{values-tag, NO-VALUE}
-use Rattle.vhead.specs.Types.{widthOf}
+use Rattle.vdata.specs.Limits.{values-tag}
+use Rattle.records.specs.Types.{widthOf}
 use Rattle.vdata.specs.Patterns.{valueAt, valueKind, valueBits}
 use Rattle.vhead.specs.Heads.{headIn, headFault, fieldAt}
 use Rattle.vhead.specs.declared.field.Numbers.{Numbers}
@@ -50,19 +48,19 @@ unfoldable pub valueIn : List ℕ → List ℕ → ℕ → ℕ → ℕ → Value
 valueIn e v r i c =
     let h = headIn e in let f = fieldAt e h i in valueAt (f .code) v (placeOf h f r c)
 
--- after a sound head of the bytes e: 17, then the values: 11, 12, and 15
-unfoldable pub valueAfter : List ℕ → List ℕ → ℕ → ℕ → ℕ → ℕ → Answer
-valueAfter s e ref r i c =
+-- after a sound head of the bytes e: 17, then the values that were found: 11, 12, and 15
+unfoldable pub valueAfter : List ℕ → List ℕ → Hit → ℕ → ℕ → ℕ → Answer
+valueAfter s e values r i c =
     let h = headIn e in
-    judged 2 (indexFault h (fieldAt e h i) r i c) 0
-    (inPlain 2 s
-    (λ q.
-    let v = contentAt s q in
-    judged 2 (valuesFault h v) q (grant (valueKind (valueIn e v r i c) ∷ valueBits (valueIn e v r i c) ∷ [])))
-    (find s values-tag ref))
+    unless 2 (indexFault h (fieldAt e h i) r i c) 0
+    (recordAt 2 s values (valuesFault h) (λ at v. grant (valueKind (valueIn e v r i c) ∷ valueBits (valueIn e v r i c) ∷ [])))
+
+-- at the head and the values that were found
+unfoldable pub valueFound : List ℕ → Hit → Hit → ℕ → ℕ → ℕ → Answer
+valueFound s head values r i c = recordAt 2 s head headFault (λ at e. valueAfter s e values r i c)
 
 unfoldable pub valueOf : List ℕ → ℕ → ℕ → ℕ → ℕ → Answer
-valueOf s ref r i c = recordOf 2 s head-tag ref headFault (λ p. valueAfter s (contentAt s p) ref r i c)
+valueOf s ref r i c = opened 2 s (valueFound s (find s head-tag ref) (find s values-tag ref) r i c)
 
 -- the answer, and where a value is given, that very value
 pub record Gives (answer : Answer) (v : Value) (r : Answered) : Type 0 where

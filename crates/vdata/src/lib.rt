@@ -1,4 +1,3 @@
 // The values of Vdatas.
 pub mod format;
-pub mod refusals;
 pub mod value;

@@ -1,20 +1,20 @@
 // Values of Vdatas, in the element of tag 1963 that has the head's reference.
 use super::format::VALUES_TAG;
-use super::refusals::NO_VALUE;
+use answer::Refusal;
+use answer::refusals::NO_VALUE;
+use answer::refusals::RECORD;
 use directory::Opened;
-use directory::Refusal;
-use records::refusals::RECORD;
-use storage::view::Located;
+use records::scalar::width;
+use storage::element;
+use storage::element::Located;
 use vhead::field::Numbers;
-use vhead::field::width;
 use vhead::format::HEAD_TAG;
 use vhead::head;
 use vhead::head::Head;
 ghost use mathlib.Core.Path.{_≡_};
-ghost use Prim.Native.Nat.{_+_, _*_, _≤_, _<_, _^_};
-ghost use Rattle.wire.specs.Numbers.{be};
-ghost use Rattle.storage.specs.Steps.{Opens};
-ghost use Rattle.records.specs.Reading.{recordBytes};
+ghost use Prim.Native.Nat.{_*_, _≤_, _<_};
+ghost use Rattle.directory.specs.Lookup.{find, findIn};
+ghost use Rattle.records.specs.Readings.{recordBytes};
 ghost use Rattle.vhead.specs.Heads as Heads;
 ghost use Rattle.vhead.specs.Steps as Steps;
 ghost use Rattle.vhead.specs.Limits.{head-tag};
@@ -123,7 +123,8 @@ fn index_fault(h: Head, part: &[u8], record: usize, field: usize, component: usi
 
 // Where a component of a field in a record lies among the values.
 fn place(h: Head, f: Numbers, record: usize, component: usize) -> usize
-    requires { ⌜ (h .records < 4294967296) × (h .«record_size» < 65536) × Steps.Narrow f × («record» < h .records) × (component < f .order) ⌝ }
+    requires { ⌜ (h .records < 4294967296) × (h .«record_size» < 65536) × Steps.Narrow f
+        × («record» < h .records) × (component < f .order) ⌝ }
     ensures { λ r. ⌜ r ≡ Values.placeOf h f «record» component ⌝ }
 {
     let width = width(f.code);
@@ -133,44 +134,8 @@ fn place(h: Head, f: Numbers, record: usize, component: usize) -> usize
     h.records * f.offset + record * f.size + component * width
 }
 
-// Reads a value of the Vdata of a reference, by the indices of its record, its field and its component.
-pub fn read(image: &[u8], reference: u16, record: u64, field: u64, component: u64) -> Answered
-    ensures { λ r. ⌜ Values.Gives (Values.valueOf (now (image .entry)) reference «record» field component) (Values.valueIn (recordBytes (now (image .entry)) head-tag reference) (recordBytes (now (image .entry)) values-tag reference) «record» field component) r ⌝ }
-{
-    let opened = directory::open(image);
-    let Opened::Accepted(counts) = opened else {
-        return Answered::Refused(directory::refusal_of(opened));
-    };
-    let located = storage::view::locate(image, counts.blocks, HEAD_TAG, reference);
-    let Located::Plain {
-        slot,
-        offset,
-        length,
-    } = located
-    else {
-        return Answered::Refused(storage::view::refusal_of(located));
-    };
-    let part = &image[offset..offset + length];
-    let number = head::fault(part);
-    if number != 0 {
-        return Answered::Refused(Refusal {
-            number,
-            place: slot,
-        });
-    }
-    read_in(
-        image,
-        counts.blocks,
-        reference,
-        part,
-        record as usize,
-        field as usize,
-        component as usize,
-    )
-}
-
-// The same where the head is sound.
-fn read_in(
+// Reads the value after a sound head.
+fn read_after(
     image: &[u8],
     blocks: usize,
     reference: u16,
@@ -179,33 +144,87 @@ fn read_in(
     field: usize,
     component: usize,
 ) -> Answered
-    requires { ⌜ Opens (now image) blocks × (Heads.headFault (now part) ≡ 0) ⌝ }
-    ensures { λ r. ⌜ Values.Gives (Values.valueAfter (now (image .entry)) (now (part .entry)) reference «record» field component) (Values.valueIn (now (part .entry)) (recordBytes (now (image .entry)) values-tag reference) «record» field component) r ⌝ }
+    ensures { λ r. ⌜ (let s = now (image .entry) in let e = now (part .entry) in let values = findIn s blocks values-tag reference in
+        Values.Gives (Values.valueAfter s e values «record» field component)
+        (Values.valueIn e (recordBytes s values) «record» field component) r) ⌝ }
 {
     let h = head::parse(part);
     let number = index_fault(h, part, record, field, component);
     if number != 0 {
         return Answered::Refused(Refusal { number, place: 0 });
     }
-    let located = storage::view::locate(image, blocks, VALUES_TAG, reference);
+    let located = element::locate(image, blocks, VALUES_TAG, reference);
     let Located::Plain {
         slot,
         offset,
         length,
     } = located
     else {
-        return Answered::Refused(storage::view::refusal_of(located));
+        return Answered::Refused(element::refusal_of(located));
     };
-    if length < h.records * h.record_size {
+    let values = wire::part(image, offset, length);
+    if values.len() < h.records * h.record_size {
         return Answered::Refused(Refusal {
             number: RECORD,
             place: slot,
         });
     }
     let f = head::numbers_at(part, field as u16);
-    Answered::Value(value_at(
-        f.code,
-        &image[offset..offset + length],
-        place(h, f, record, component),
-    ))
+    Answered::Value(value_at(f.code, values, place(h, f, record, component)))
+}
+
+// Reads a value of the Vdata of a reference, by the indices of its record, its field and its component, in a chain of so many blocks.
+pub fn read_in(
+    image: &[u8],
+    blocks: usize,
+    reference: u16,
+    record: u64,
+    field: u64,
+    component: u64,
+) -> Answered
+    ensures { λ r. ⌜ (let s = now (image .entry) in
+        let head = findIn s blocks head-tag reference in let values = findIn s blocks values-tag reference in
+        Values.Gives (Values.valueFound s head values «record» field component)
+        (Values.valueIn (recordBytes s head) (recordBytes s values) «record» field component) r) ⌝ }
+{
+    let located = element::locate(image, blocks, HEAD_TAG, reference);
+    let Located::Plain {
+        slot,
+        offset,
+        length,
+    } = located
+    else {
+        return Answered::Refused(element::refusal_of(located));
+    };
+    let part = wire::part(image, offset, length);
+    let number = head::fault(part);
+    if number != 0 {
+        return Answered::Refused(Refusal {
+            number,
+            place: slot,
+        });
+    }
+    read_after(
+        image,
+        blocks,
+        reference,
+        part,
+        record as usize,
+        field as usize,
+        component as usize,
+    )
+}
+
+// The same in an image that is opened first.
+pub fn read(image: &[u8], reference: u16, record: u64, field: u64, component: u64) -> Answered
+    ensures { λ r. ⌜ (let s = now (image .entry) in
+        let head = find s head-tag reference in let values = find s values-tag reference in
+        Values.Gives (Values.valueOf s reference «record» field component)
+        (Values.valueIn (recordBytes s head) (recordBytes s values) «record» field component) r) ⌝ }
+{
+    let opened = directory::open(image);
+    let Opened::Accepted(counts) = opened else {
+        return Answered::Refused(directory::refusal_of(opened));
+    };
+    read_in(image, counts.blocks, reference, record, field, component)
 }

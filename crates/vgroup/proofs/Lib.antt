@@ -1,7 +1,7 @@
-pub mod Groupings
+pub mod Groups
+pub mod GroupsBack
 pub mod GroupClaims
-pub mod GroupPlaces
-pub mod Walking
-pub mod Nesting
-pub mod Pairing
+pub mod Listings
+pub mod ListingsFound
+pub mod ListingsAnswered
 pub mod ListClaims

@@ -6,24 +6,24 @@ use mathlib.Core.Path.{_≡_, refl, ap, _∙_}
 use mathlib.Core.List.{List, [], _∷_}
 use lib.ListN.{length, getD}
 use borrow.Author.Tests.{ne-eqb}
-use Rattle.directory.specs.Search.{Hit, hit, miss}
-use Rattle.directory.specs.Slots.{contentAt}
 use Rattle.directory.specs.Lookup.{find}
-use Rattle.vgroup.specs.Limits.{group-tag}
+use Rattle.vgroup.specs.Limits.{group-tag, most-groups}
 use Rattle.vgroup.specs.Groups.{groupMembers}
-use Rattle.vgroup.proofs.Groupings.{groupIn, length-members}
-use Rattle.vgroup.specs.Limits.{most-nested}
-use Rattle.vgroup.specs.Listings.{Listing, stopped, pair, membersFrom, listFrom, placesIn, pairsFound, pairsOf}
-use Rattle.vgroup.proofs.Walking.{listed-few}
+use Rattle.vgroup.proofs.Groups.{groupIn, length-members}
+use Rattle.vgroup.specs.Listings.{Listing, stopped, pair, membersFrom, entered, listFrom, placesIn, pairsOf}
+use Rattle.wire.specs.Numbers.{part}
+use Rattle.storage.specs.declared.element.Located.{Located}
+use Rattle.storage.specs.declared.element.Located.the-variants.{Plain, Refused}
+use Rattle.vgroup.specs.Groups.{soundGroup}
+use Rattle.vgroup.proofs.Listings.{listed-few}
 
 -- no more pairs are listed than the lent table has places for
 pub pairs-few : (s : List ℕ) (ref room : ℕ) → length (pairsOf s ref room) ≤ 2 * placesIn room
-unfolding pairsFound
-pairs-few s ref room = go (find s group-tag ref)
+pairs-few s ref room = go (soundGroup s (find s group-tag ref))
   where
-    go : (h : Hit) → length (pairsFound s h room) ≤ 2 * placesIn room
-    go miss = omega arith
-    go (hit p) = listed-few most-nested s p (placesIn room)
+    go : (l : Located) → length (entered s (listFrom most-groups s) l (placesIn room) .pairs) ≤ 2 * placesIn room
+    go (Refused x) = omega arith
+    go (Plain p o n) = listed-few most-groups s p (part s o n) (placesIn room)
 
 -- members none of which is a group are listed as they stand
 members-other : (nest : ℕ → ℕ → Listing) (tag ref : ℕ) (rest : List ℕ) (room : ℕ) → (tag ≡ group-tag → ⊥)
@@ -47,9 +47,7 @@ members-plain nest (suc n) (x ∷ y ∷ xs) l h (suc room) r =
     λ i m q. h (suc i) (omega arith) (let a : 2 * suc i ≡ suc (suc (2 * i)) = omega arith in rw a q) in
     members-other nest x y xs room (h 0 (omega arith)) ∙ ap (pair x y) (members-plain nest n xs (omega arith) later room (omega arith))
 
-pub list-plain : (depth : ℕ) (s : List ℕ) (p room : ℕ) → let ms = groupMembers (contentAt s p) in
-    ((i : ℕ) → i < groupIn (contentAt s p) .members → getD ms (2 * i) 0 ≡ group-tag → ⊥) → groupIn (contentAt s p) .members ≤ room
-    → listFrom depth s p room ≡ record { pairs = ms; number = 0; place = 0 }
-unfolding listFrom
-list-plain zero s p room h r = members-plain _ _ _ (length-members (contentAt s p)) h room r
-list-plain (suc depth) s p room h r = members-plain _ _ _ (length-members (contentAt s p)) h room r
+pub list-plain : (groups : ℕ) (s : List ℕ) (p : ℕ) (b : List ℕ) (room : ℕ) → let ms = groupMembers b in
+    ((i : ℕ) → i < groupIn b .members → getD ms (2 * i) 0 ≡ group-tag → ⊥) → groupIn b .members ≤ room
+    → listFrom groups s p b room ≡ record { pairs = ms; number = 0; place = 0 }
+list-plain groups s p b room h r = members-plain _ _ _ (length-members b) h room r

@@ -1,15 +1,18 @@
 -- Vgroups, tag 1965, after document 01, "Records". Assumes nothing.
-use Prim.Native.Nat.{ℕ, _+_, _*_, _/_, _%_}
-use mathlib.Core.List.{List, [], _∷_, _++_}
+use Prim.Native.Nat.{ℕ, _*_, _/_, _%_}
+use mathlib.Core.List.{List, _∷_, _++_}
 use lib.ListN.{length}
 use lib.Dec.{leb, eqb}
-use Rattle.directory.specs.Answer.{Answer, grant, refuse}
-use Rattle.directory.specs.Search.{must}
-use Rattle.directory.specs.Slots.{contentAt}
-use Rattle.storage.specs.Elements.{startAt}
-use Rattle.records.specs.Limits.{most-count, RECORD}
-use Rattle.records.specs.Layout.{Layout, number, run, read, numbersAt, pack}
-use Rattle.records.specs.Reading.{recordOf, inRoom, within}
+use Rattle.answer.specs.Answer.{Answer, grant, refuse, inRoom}
+use Rattle.answer.specs.Search.{must, Hit}
+use Rattle.records.specs.Limits.{most-count}
+use Rattle.answer.specs.Refusals.{RECORD}
+use Rattle.wire.specs.Layouts.{Layout, number, run, read, numbersAt, pack}
+use Rattle.directory.specs.Opening.{opened}
+use Rattle.directory.specs.Lookup.{find}
+use Rattle.storage.specs.Elements.{locatedAt}
+use Rattle.storage.specs.declared.element.Located.{Located}
+use Rattle.records.specs.Readings.{soundIn, recordAt, within}
 use Rattle.vset.specs.Limits.{only-version}
 use Rattle.vgroup.specs.Limits.{group-tag}
 use Rattle.vset.specs.Columns.{rows2, every}
@@ -40,10 +43,17 @@ abbrev pub groupNumbers : Answered → Answer
 groupNumbers (Values start g) = grant (groupValues start g)
 groupNumbers (Refused r) = refuse 9 (r .number) (r .place)
 
+-- the element of a group that is sound, or the refusal: 11, 12, 15
+abbrev pub soundGroup : List ℕ → Hit → Located
+soundGroup s found = soundIn groupFault s (locatedAt s found)
+
+unfoldable pub groupAt : List ℕ → Hit → ℕ → Answer
+groupAt s found room =
+    recordAt 9 s found groupFault
+    (λ at e. let g = read group e 0 in inRoom 9 (leb (2 * g .members) room) (grant (groupValues at g)))
+
 unfoldable pub groupOf : List ℕ → ℕ → ℕ → Answer
-groupOf s ref room =
-    recordOf 9 s group-tag ref groupFault
-    (λ p. let g = read group (contentAt s p) 0 in inRoom 9 (leb (2 * g .members) room) (grant (groupValues (startAt s p) g)))
+groupOf s ref room = opened 9 s (groupAt s (find s group-tag ref) room)
 
 -- the bytes of a Vgroup with these members, tag and reference of each
 unfoldable pub groupBytes : List ℕ → List ℕ → List ℕ → Ending → List ℕ

@@ -1,11 +1,13 @@
 // Vgroups, tag 1965.
 use super::format::GROUP_TAG;
-use directory::Refusal;
-use directory::refusals::SMALL;
+use answer::Refusal;
+use answer::refusals::RECORD;
+use answer::refusals::SMALL;
+use directory::Opened;
 use records::Packed;
 use records::format::MOST_COUNT;
-use records::refusals::RECORD;
-use storage::view::Located;
+use storage::element;
+use storage::element::Located;
 use vset::column::lay_column;
 use vset::format::VERSION;
 use vset::tail;
@@ -15,10 +17,11 @@ ghost use mathlib.Core.Path.{_≡_};
 ghost use Prim.Native.Nat.{_+_, _*_, _≤_};
 ghost use lib.ListN.{length};
 ghost use lib.Seq.{sets};
-ghost use Rattle.storage.specs.Copy.{laidOver};
-ghost use Rattle.records.specs.Layout as Layout;
-ghost use Rattle.records.specs.Reading.{recordBytes};
-ghost use Rattle.records.specs.Packing.{Packs};
+ghost use Rattle.answer.specs.Lent.{Does};
+ghost use Rattle.directory.specs.Lookup.{find, findIn};
+ghost use Rattle.wire.specs.Layouts as Layout;
+ghost use Rattle.records.specs.Readings.{recordBytes};
+ghost use Rattle.records.specs.Packings.{packedNumbers, Packs};
 ghost use Rattle.vgroup.specs.Limits as Limits;
 ghost use Rattle.vset.specs.Columns as Columns;
 ghost use Rattle.vgroup.specs.Groups as Groups;
@@ -66,7 +69,9 @@ pub(crate) fn fault(part: &[u8]) -> usize
 // Puts tag and reference of each member into the front of a list.
 fn put_members(part: &[u8], count: usize, list: &mut [u16])
     requires { ⌜ (2 * count ≤ length (now list)) × (2 + 4 * count ≤ length (now part)) ⌝ }
-    ensures { λ _. ⌜ now (list .exit) ≡ sets (now (list .entry)) 0 (Columns.rows2 (Layout.numbersAt 2 count (now (part .entry)) 2) (Layout.numbersAt 2 count (now (part .entry)) (2 + 2 * count))) ⌝ }
+    ensures { λ _. ⌜ (let e = now (part .entry) in
+        now (list .exit) ≡ sets (now (list .entry)) 0
+        (Columns.rows2 (Layout.numbersAt 2 count e 2) (Layout.numbersAt 2 count e (2 + 2 * count)))) ⌝ }
 {
     let mut i = 0;
     while i < count {
@@ -76,28 +81,45 @@ fn put_members(part: &[u8], count: usize, list: &mut [u16])
     }
 }
 
-// Reads the group of a reference: its numbers, and tag and reference of each member to a lent list.
-pub fn read(image: &[u8], reference: u16, members: &mut [u16]) -> Answered
-    ensures answer { λ r. ⌜ Groups.groupNumbers r ≡ Groups.groupOf (now (image .entry)) reference (length (now (members .entry))) ⌝ }
-    ensures lent { λ _. ⌜ now (members .exit) ≡ laidOver (Groups.groupOf (now (image .entry)) reference (length (now (members .entry)))) (Groups.groupMembers (recordBytes (now (image .entry)) Limits.group-tag reference)) (now (members .entry)) ⌝ }
+// The element of the group of a reference in a chain of so many blocks, where its record breaks no rule.
+pub fn find(image: &[u8], blocks: usize, reference: u16) -> Located
+    ensures { λ r. ⌜ r ≡ Groups.soundGroup (now (image .entry)) (findIn (now (image .entry)) blocks Limits.group-tag reference) ⌝ }
 {
-    let located = storage::view::find_plain(image, GROUP_TAG, reference);
+    let located = element::locate(image, blocks, GROUP_TAG, reference);
     let Located::Plain {
         slot,
         offset,
         length,
     } = located
     else {
-        return Answered::Refused(storage::view::refusal_of(located));
+        return located;
     };
-    let part = &image[offset..offset + length];
-    let number = fault(part);
+    let number = fault(wire::part(image, offset, length));
     if number != 0 {
-        return Answered::Refused(Refusal {
+        return Located::Refused(Refusal {
             number,
             place: slot,
         });
     }
+    located
+}
+
+// Reads the group of a reference in a chain of so many blocks: its numbers, and tag and reference of each member to a lent list.
+pub fn read_in(image: &[u8], blocks: usize, reference: u16, members: &mut [u16]) -> Answered
+    ensures { λ r. ⌜ (let s = now (image .entry) in let found = findIn s blocks Limits.group-tag reference in
+        Does (Groups.groupAt s found (length (now (members .entry)))) (Groups.groupMembers (recordBytes s found))
+        (now (members .entry)) (now (members .exit)) (Groups.groupNumbers r)) ⌝ }
+{
+    let located = find(image, blocks, reference);
+    let Located::Plain {
+        slot: _,
+        offset,
+        length,
+    } = located
+    else {
+        return Answered::Refused(element::refusal_of(located));
+    };
+    let part = wire::part(image, offset, length);
     let group = parse(part);
     if members.len() < 2 * group.members {
         return Answered::Refused(Refusal {
@@ -110,6 +132,19 @@ pub fn read(image: &[u8], reference: u16, members: &mut [u16]) -> Answered
         start: offset,
         group,
     }
+}
+
+// The same in an image that is opened first.
+pub fn read(image: &[u8], reference: u16, members: &mut [u16]) -> Answered
+    ensures { λ r. ⌜ (let s = now (image .entry) in
+        Does (Groups.groupOf s reference (length (now (members .entry)))) (Groups.groupMembers (recordBytes s (find s Limits.group-tag reference)))
+        (now (members .entry)) (now (members .exit)) (Groups.groupNumbers r)) ⌝ }
+{
+    let opened = directory::open(image);
+    let Opened::Accepted(counts) = opened else {
+        return Answered::Refused(directory::refusal_of(opened));
+    };
+    read_in(image, counts.blocks, reference, members)
 }
 
 // The number of the rule that so many entries of members, name and class of so many bytes and a version break, 0 where they break none.
@@ -127,7 +162,9 @@ fn pack_fault(members: usize, name: usize, class: usize, version: usize) -> usiz
 
 // Packs a group into the front of a lent buffer. Members are tag and reference of each.
 pub fn pack(members: &[u16], name: &[u8], class: &[u8], x: Ending, out: &mut [u8]) -> Packed
-    ensures { λ r. ⌜ Packs (Groups.groupPackFault (length (now (members .entry))) (length (now (name .entry))) (length (now (class .entry))) (x .version)) (Groups.groupBytes (now (members .entry)) (now (name .entry)) (now (class .entry)) x) (now (out .entry)) (now (out .exit)) r ⌝ }
+    ensures { λ r. ⌜ (let ms = now (members .entry) in let n = now (name .entry) in let k = now (class .entry) in
+        Packs (Groups.groupPackFault (length ms) (length n) (length k) (x .version)) (Groups.groupBytes ms n k x)
+        (now (out .entry)) (now (out .exit)) (packedNumbers r)) ⌝ }
 {
     let number = pack_fault(members.len(), name.len(), class.len(), x.version as usize);
     if number != 0 {

@@ -2,4 +2,3 @@
 pub mod format;
 pub mod group;
 pub mod listing;
-pub mod refusals;

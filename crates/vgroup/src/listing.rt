@@ -1,24 +1,21 @@
 // Listing the members of a group, each group among them followed by its own members.
 use super::format::GROUP_TAG;
-use super::format::MOST_NESTED;
+use super::format::MOST_GROUPS;
 use super::format::MOST_PAIRS;
 use super::group;
-use super::refusals::DEEP;
+use answer::Refusal;
+use answer::refusals::DEEP;
+use answer::refusals::SMALL;
 use directory::Opened;
-use directory::Refusal;
-use directory::refusals::SMALL;
-use storage::view::Located;
+use storage::element;
+use storage::element::Located;
 ghost use mathlib.Core.Path.{_≡_};
 ghost use mathlib.Core.List.{[], _∷_};
 ghost use Prim.Native.Nat.{_+_, _*_, _≤_, _<_};
 ghost use lib.ListN.{length};
-ghost use Rattle.directory.specs.Lookup.{find};
-ghost use Rattle.directory.specs.Slots.{contentAt};
 ghost use Rattle.wire.specs.Numbers.{put};
-ghost use Rattle.storage.specs.Copy.{laidOver};
-ghost use Rattle.storage.specs.Steps.{Opens};
-ghost use Rattle.vgroup.specs.Limits as Limits;
-ghost use Rattle.vgroup.specs.Groups as Groups;
+ghost use Rattle.answer.specs.Lent.{Does};
+ghost use Rattle.directory.specs.Steps.Opens.{Opens};
 ghost use Rattle.vgroup.specs.Listings as Listings;
 ghost use Rattle.vgroup.specs.Steps as Steps;
 
@@ -49,44 +46,21 @@ fn put_pair(table: &mut [u16], at: usize, tag: u16, reference: u16)
     table[at + 1] = reference;
 }
 
-// The group of a reference, or its first fault.
-fn find_group(image: &[u8], blocks: usize, reference: u16) -> Located
-    requires { ⌜ Opens (now image) blocks ⌝ }
-    ensures { λ r. ⌜ r ≡ Steps.groupAt (now (image .entry)) (find (now (image .entry)) Limits.group-tag reference) ⌝ }
-{
-    let located = storage::view::locate(image, blocks, GROUP_TAG, reference);
-    let Located::Plain {
-        slot,
-        offset,
-        length,
-    } = located
-    else {
-        return located;
-    };
-    let number = group::fault(&image[offset..offset + length]);
-    if number != 0 {
-        return Located::Refused(Refusal {
-            number,
-            place: slot,
-        });
-    }
-    located
-}
-
 // Lists the members of the group whose record is part and whose slot is at slot, with place for so many pairs, into a table from a place
-// on. So many groups may still be nested in it. The table may be too short, as it is where a listing is only judged.
+// on. It is the first of so many groups that may be entered. The table may be too short, as it is where a listing is only judged.
 fn walk(
     image: &[u8],
     blocks: usize,
     part: &[u8],
     slot: usize,
-    depth: usize,
+    groups: usize,
     room: usize,
     table: &mut [u16],
     at: usize,
 ) -> Walked
-    requires { ⌜ Opens (now image) blocks × (now part ≡ contentAt (now image) slot) × (Groups.groupFault (now part) ≡ 0) × (at + 2 * room ≤ 8192) ⌝ }
-    ensures { λ r. ⌜ Steps.Walks (Listings.listFrom depth (now (image .entry)) slot room) at (now (table .entry)) (now (table .exit)) r ⌝ }
+    requires { ⌜ Opens (now image) blocks × (0 < groups) × (at + 2 * room ≤ 8192) ⌝ }
+    ensures { λ r. ⌜ Steps.Walks (Listings.listFrom groups (now (image .entry)) slot (now (part .entry)) room)
+        at (now (table .entry)) (now (table .exit)) r ⌝ }
 {
     let count = wire::read16(part, 0);
     let mut pairs = 0;
@@ -111,18 +85,12 @@ fn walk(
         put_pair(table, at + 2 * pairs, tag, reference);
         pairs += 1;
         if tag == GROUP_TAG {
-            if depth == 0 {
-                break 'members Walked {
-                    pairs,
-                    number: DEEP,
-                    place: slot,
-                };
-            }
             let inner = nested(
                 image,
                 blocks,
+                slot,
                 reference,
-                depth - 1,
+                groups - 1,
                 room - pairs,
                 table,
                 at + 2 * pairs,
@@ -140,27 +108,37 @@ fn walk(
     }
 }
 
-// Lists the members of the group of a reference, where it is sound.
+// Lists the members of the group of a reference, where it is sound. It is a member of the one whose slot is at holder, and so many more may
+// be entered.
 fn nested(
     image: &[u8],
     blocks: usize,
+    holder: usize,
     reference: u16,
-    depth: usize,
+    more: usize,
     room: usize,
     table: &mut [u16],
     at: usize,
 ) -> Walked
     requires { ⌜ Opens (now image) blocks × (at + 2 * room ≤ 8192) ⌝ }
-    ensures { λ r. ⌜ Steps.Walks (Listings.groupFound (now (image .entry)) (Listings.listFrom depth (now (image .entry))) (find (now (image .entry)) Limits.group-tag reference) room) at (now (table .entry)) (now (table .exit)) r ⌝ }
+    ensures { λ r. ⌜ Steps.Walks (Listings.nestedFrom more (now (image .entry)) holder reference room)
+        at (now (table .entry)) (now (table .exit)) r ⌝ }
 {
-    let located = find_group(image, blocks, reference);
+    if more == 0 {
+        return Walked {
+            pairs: 0,
+            number: DEEP,
+            place: holder,
+        };
+    }
+    let located = group::find(image, blocks, reference);
     let Located::Plain {
         slot,
         offset,
         length,
     } = located
     else {
-        let refusal = storage::view::refusal_of(located);
+        let refusal = element::refusal_of(located);
         return Walked {
             pairs: 0,
             number: refusal.number,
@@ -170,9 +148,9 @@ fn nested(
     walk(
         image,
         blocks,
-        &image[offset..offset + length],
+        wire::part(image, offset, length),
         slot,
-        depth,
+        more,
         room,
         table,
         at,
@@ -181,30 +159,31 @@ fn nested(
 
 // Lists the members of the group of a reference, and those of the groups among them, to a lent table. All is judged first.
 pub fn list(image: &[u8], reference: u16, table: &mut [u16]) -> Listed
-    ensures answer { λ r. ⌜ Listings.listedNumbers r ≡ Listings.listingOf (now (image .entry)) reference (length (now (table .entry))) ⌝ }
-    ensures lent { λ _. ⌜ now (table .exit) ≡ laidOver (Listings.listingOf (now (image .entry)) reference (length (now (table .entry)))) (Listings.pairsOf (now (image .entry)) reference (length (now (table .entry)))) (now (table .entry)) ⌝ }
+    ensures { λ r. ⌜ (let s = now (image .entry) in let room = length (now (table .entry)) in
+        Does (Listings.listingOf s reference room) (Listings.pairsOf s reference room)
+        (now (table .entry)) (now (table .exit)) (Listings.pairsNumbers r)) ⌝ }
 {
     let opened = directory::open(image);
     let Opened::Accepted(counts) = opened else {
         return Listed::Refused(directory::refusal_of(opened));
     };
-    let located = find_group(image, counts.blocks, reference);
+    let located = group::find(image, counts.blocks, reference);
     let Located::Plain {
         slot,
         offset,
         length,
     } = located
     else {
-        return Listed::Refused(storage::view::refusal_of(located));
+        return Listed::Refused(element::refusal_of(located));
     };
-    let part = &image[offset..offset + length];
+    let part = wire::part(image, offset, length);
     let room = wire::least(table.len() / 2, MOST_PAIRS);
     let judged = walk(
         image,
         counts.blocks,
         part,
         slot,
-        MOST_NESTED,
+        MOST_GROUPS,
         room,
         &mut table[..0],
         0,
@@ -220,7 +199,7 @@ pub fn list(image: &[u8], reference: u16, table: &mut [u16]) -> Listed
         counts.blocks,
         part,
         slot,
-        MOST_NESTED,
+        MOST_GROUPS,
         room,
         table,
         0,

@@ -1,7 +1,7 @@
-pub mod Codes
-pub mod Judging
-pub mod Headings
-pub mod HeadReads
-pub mod HeadPacks
+pub mod HeadsJudged
+pub mod Heads
+pub mod HeadsRead
+pub mod HeadsPacked
+pub mod HeadsNamed
+pub mod HeadsBack
 pub mod HeadClaims
-pub mod HeadPlaces

@@ -1,23 +1,27 @@
 -- Heads of Vdatas, tag 1962, after document 01, "Records". Assumes nothing.
 use Prim.Native.Nat.{ℕ, zero, suc, _+_, _*_, _/_, min}
 use mathlib.Core.List.{List, [], _∷_, _++_}
-use mathlib.Core.Bool.{Bool, true, false, _&&_}
+use mathlib.Core.Bool.{Bool, true, _&&_}
 use lib.ListN.{length, getD, take, drop}
 use lib.Dec.{leb, eqb}
 use Rattle.wire.specs.Numbers.{be}
-use Rattle.directory.specs.Answer.{Answer, grant, refuse}
-use Rattle.directory.specs.Search.{must}
-use Rattle.directory.specs.Slots.{contentAt}
-use Rattle.storage.specs.Elements.{startAt}
-use Rattle.storage.specs.View.{viewOf}
-use Rattle.records.specs.Limits.{RECORD}
-use Rattle.records.specs.Layout.{Layout, number, run, read, numbersAt, pack}
-use Rattle.records.specs.Reading.{recordOf, inRoom, within}
+use Rattle.answer.specs.Answer.{Answer, grant, refuse, unless, inRoom}
+use Rattle.answer.specs.Lent.{Does}
+use Rattle.answer.specs.Search.{must, Hit}
+use Rattle.answer.specs.Refusals.{TOO-LONG, RECORD, TYPE}
+use Rattle.directory.specs.Limits.{most-bytes}
+use Rattle.directory.specs.Opening.{opened}
+use Rattle.directory.specs.Lookup.{find}
+use Rattle.storage.specs.Elements.{locatedAt}
+use Rattle.storage.specs.declared.element.Located.{Located}
+use Rattle.storage.specs.declared.element.Located.the-variants as located
+use Rattle.wire.specs.Layouts.{Layout, number, run, read, numbersAt, pack}
+use Rattle.records.specs.Readings.{recordAt, recordBytes, within}
 use Rattle.vset.specs.Limits.{only-version}
-use Rattle.vhead.specs.Limits.{head-tag, most-interlace, most-fields, TYPE}
+use Rattle.vhead.specs.Limits.{head-tag, most-head-interlace, most-fields}
 use Rattle.vset.specs.Columns.{rows4, every}
 use Rattle.vset.specs.Tails.{text, tail, tailValues, tailNumbers, tailPackFault, namesEnd}
-use Rattle.vhead.specs.Types.{widthOf}
+use Rattle.records.specs.Types.{widthOf}
 use Rattle.vset.specs.declared.tail.Ending.{Ending}
 use Rattle.vhead.specs.declared.field.Numbers.{Numbers}
 use Rattle.vhead.specs.declared.head.Head.{Head}
@@ -29,7 +33,7 @@ use Rattle.vhead.specs.declared.head.Answered.the-variants.{Values, Refu
 -- for each field a name length and name
 unfoldable pub names : {A : Type 0} → ℕ → Layout A → Layout A
 names zero then = then
-names (suc n) then = text (λ name length. names n then)
+names (suc n) then = text (λ name size. names n then)
 
 -- interlace 16, records 32, record size 16, field count 16; all types, all sizes, all offsets, all orders; the names; the tail
 abbrev pub head : Layout Head
@@ -65,12 +69,12 @@ fieldAt e h i =
     }
 
 -- those of so many fields, from an index on
-unfoldable pub fieldsFrom : List ℕ → Head → ℕ → ℕ → List Numbers
-fieldsFrom e h zero i = []
-fieldsFrom e h (suc n) i = fieldAt e h i ∷ fieldsFrom e h n (i + 1)
+unfoldable pub fieldsFrom : (ℕ → Numbers) → ℕ → ℕ → List Numbers
+fieldsFrom field zero i = []
+fieldsFrom field (suc n) i = field i ∷ fieldsFrom field n (i + 1)
 
 abbrev pub fieldsOf : List ℕ → Head → List Numbers
-fieldsOf e h = fieldsFrom e h (h .fields) 0
+fieldsOf e h = fieldsFrom (fieldAt e h) (h .fields) 0
 
 -- the same from rows of type, size, offset and order
 abbrev pub rowAt : List ℕ → ℕ → Numbers
@@ -82,9 +86,8 @@ rowAt rows i =
       order = getD rows (4 * i + 3) 0;
     }
 
-unfoldable pub fieldsIn : List ℕ → ℕ → ℕ → List Numbers
-fieldsIn rows zero i = []
-fieldsIn rows (suc n) i = rowAt rows i ∷ fieldsIn rows n (i + 1)
+abbrev pub fieldsIn : List ℕ → ℕ → List Numbers
+fieldsIn rows n = fieldsFrom (rowAt rows) n 0
 
 -- every order is at least 1
 unfoldable pub ordered : List Numbers → Bool
@@ -114,7 +117,7 @@ headFault e =
     let h = headIn e in
     must (within head e) RECORD
     (must (eqb (h .tail .version) only-version) RECORD
-    (must (leb (h .interlace) most-interlace) RECORD
+    (must (leb (h .interlace) most-head-interlace) RECORD
     (must (leb (h .fields) most-fields) RECORD
     (fieldsFault (h .«record_size») (fieldsOf e h)))))
 
@@ -132,9 +135,13 @@ nameRows start e (suc n) at = (start + (at + 2)) ∷ be 2 e at ∷ nameRows star
 unfoldable pub headNames : ℕ → List ℕ → List ℕ
 headNames start e = let h = headIn e in nameRows start e (h .fields) (h .names)
 
--- where the record starts in the image
-unfoldable pub startOf : List ℕ → ℕ → ℕ
-startOf s ref = getD (viewOf s head-tag ref .values) 0 0
+-- where the bytes of an element start in the image; 0 where it is not located
+abbrev pub offsetIn : Located → ℕ
+offsetIn (located.Plain p offset size) = offset
+offsetIn (located.Refused x) = 0
+
+abbrev pub startOf : List ℕ → Hit → ℕ
+startOf s found = offsetIn (locatedAt s found)
 
 abbrev pub headValues : ℕ → Head → List ℕ
 headValues start h = h .interlace ∷ h .records ∷ h .«record_size» ∷ h .fields ∷ tailValues start (h .tail)
@@ -144,14 +151,26 @@ headNumbers (Values start size h) = grant (headValues start h)
 headNumbers (Refused r) = refuse 12 (r .number) (r .place)
 
 -- where there is room for so many fields
+unfoldable pub headAt : List ℕ → Hit → ℕ → Answer
+headAt s found room =
+    recordAt 12 s found headFault (λ at e. let h = headIn e in inRoom 12 (leb (h .fields) room) (grant (headValues at h)))
+
 unfoldable pub headWithin : List ℕ → ℕ → ℕ → Answer
-headWithin s ref room =
-    recordOf 12 s head-tag ref headFault
-    (λ p. let h = headIn (contentAt s p) in inRoom 12 (leb (h .fields) room) (grant (headValues (startAt s p) h)))
+headWithin s ref room = opened 12 s (headAt s (find s head-tag ref) room)
 
 -- where the lent lists have room for four numbers and for two a field
 abbrev pub headOf : List ℕ → ℕ → ℕ → ℕ → Answer
 headOf s ref fields names = headWithin s ref (min (fields / 4) (names / 2))
+
+-- places are told in 32 bits: a call that does not open an image refuses one that is too long to open
+unfoldable pub unlessLong : ℕ → List ℕ → Answer → Answer
+unlessLong k s answer = unless k (must (leb (length s) most-bytes) TOO-LONG 0) 0 answer
+
+-- what a reading at what a lookup found leaves in the two lists
+abbrev pub ReadsHead : Answer → List ℕ → Hit → List ℕ → List ℕ → List ℕ → List ℕ → Answer → Type 0
+ReadsHead answer s found fields fields-after names names-after numbers =
+    Does answer (headFields (recordBytes s found)) fields fields-after numbers
+    × Does answer (headNames (startOf s found) (recordBytes s found)) names names-after numbers
 
 -- ---- One field with its name
 
@@ -185,6 +204,6 @@ headPackFault b rows lengths all name class version =
     must (leb (length lengths) most-fields) RECORD
     (must (eqb (length rows) (4 * length lengths)) RECORD
     (must (eqb all (total lengths)) RECORD
-    (must (leb (b .interlace) most-interlace) RECORD
+    (must (leb (b .interlace) most-head-interlace) RECORD
     (tailPackFault name class version
-    (fieldsFault (b .«record_size») (fieldsIn rows (length lengths) 0))))))
+    (fieldsFault (b .«record_size») (fieldsIn rows (length lengths)))))))

@@ -1,4 +1,3 @@
 pub mod Limits
-pub mod Types
 pub mod Heads
 pub mod Steps

@@ -2,18 +2,18 @@
 use Prim.Native.Nat.{ℕ, _+_, _*_, _<_, _≤_}
 use mathlib.Core.Path.{_≡_}
 use mathlib.Core.List.{List, [], _∷_, _++_}
-use mathlib.Core.Bool.{Bool, _&&_}
+use mathlib.Core.Bool.{_&&_}
 use lib.ListN.{length, take, drop}
 use lib.Dec.{leb, eqb}
 use Rattle.wire.specs.Numbers.{bytes, part}
 use Rattle.directory.specs.Limits.{most-bytes}
-use Rattle.directory.specs.Search.{must}
-use Rattle.records.specs.Limits.{RECORD}
-use Rattle.records.specs.Layout.{bytesEach}
-use Rattle.records.specs.Reading.{recordBytes}
-use Rattle.vhead.specs.Limits.{head-tag, most-fields, TYPE}
+use Rattle.answer.specs.Search.{must, Hit}
+use Rattle.answer.specs.Refusals.{RECORD, TYPE}
+use Rattle.wire.specs.Layouts.{bytesEach}
+use Rattle.records.specs.Readings.{recordBytes}
+use Rattle.vhead.specs.Limits.{most-fields}
 use Rattle.vset.specs.Columns.{every}
-use Rattle.vhead.specs.Types.{widthOf}
+use Rattle.records.specs.Types.{widthOf}
 use Rattle.vhead.specs.Heads.{headIn, startOf}
 use Rattle.vhead.specs.declared.field.Numbers.{Numbers}
 use Rattle.vhead.specs.declared.head.Start.{Start}
@@ -64,16 +64,16 @@ namesBytes [] all = []
 namesBytes (n ∷ ns) all = bytes 2 n ++ (take n all ++ namesBytes ns (drop n all))
 
 -- a head that was found: its record's place and bytes, which break no rule, and room for its fields
-pub record HeadHeld (s : List ℕ) (ref room start size : ℕ) (h : Head) : Type 0 where
+pub record HeadHeld (s : List ℕ) (found : Hit) (room start size : ℕ) (h : Head) : Type 0 where
   pub short : length s ≤ most-bytes
   pub inside : start + size ≤ length s
-  pub starts : startOf s ref ≡ start
-  pub bytes-are : recordBytes s head-tag ref ≡ part s start size
+  pub starts : startOf s found ≡ start
+  pub bytes-are : recordBytes s found ≡ part s start size
   pub parsed : h ≡ headIn (part s start size)
   pub last : h .tail .end ≤ size
   pub few : h .fields ≤ most-fields
   pub fits : h .fields ≤ room
 
-abbrev pub Held : List ℕ → ℕ → ℕ → Answered → Type 0
-Held s ref room (Values start size h) = HeadHeld s ref room start size h
-Held s ref room (Refused r) = r .number ≡ 0 → ⊥
+abbrev pub Held : List ℕ → Hit → ℕ → Answered → Type 0
+Held s found room (Values start size h) = HeadHeld s found room start size h
+Held s found room (Refused r) = r .number ≡ 0 → ⊥

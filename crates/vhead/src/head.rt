@@ -1,33 +1,35 @@
 // Heads of Vdatas, tag 1962.
 use super::field::Numbers;
-use super::field::width;
 use super::format::HEAD_TAG;
 use super::format::MOST_FIELDS;
-use super::format::MOST_INTERLACE;
-use super::refusals::TYPE;
-use directory::Refusal;
-use directory::refusals::SMALL;
+use super::format::MOST_HEAD_INTERLACE;
+use answer::Refusal;
+use answer::refusals::RECORD;
+use answer::refusals::SMALL;
+use answer::refusals::TOO_LONG;
+use answer::refusals::TYPE;
+use directory::Opened;
+use directory::format::MOST_BYTES;
 use records::Packed;
-use records::refusals::RECORD;
-use storage::view::Located;
+use records::scalar::width;
+use storage::element;
+use storage::element::Located;
 use vset::column::lay_column;
 use vset::format::VERSION;
 use vset::tail;
 use vset::tail::Ending;
 use vset::tail::Tail;
 ghost use mathlib.Core.Path.{_≡_};
-ghost use Prim.Native.Nat.{_+_, _*_, _≤_, _<_};
+ghost use Prim.Native.Nat.{_+_, _*_, _/_, _≤_, _<_, min};
 ghost use mathlib.Core.Bool.{_&&_};
 ghost use lib.Dec.{eqb};
 ghost use lib.ListN.{length};
 ghost use lib.Seq.{sets};
 ghost use Rattle.wire.specs.Numbers.{put};
-ghost use Rattle.storage.specs.Copy.{laidOver};
-ghost use Rattle.records.specs.Layout as Layout;
-ghost use Rattle.records.specs.Reading.{recordBytes};
-ghost use Rattle.records.specs.Packing.{Packs};
+ghost use Rattle.wire.specs.Layouts as Layout;
+ghost use Rattle.directory.specs.Lookup.{find, findIn};
+ghost use Rattle.records.specs.Packings.{packedNumbers, Packs};
 ghost use Rattle.vhead.specs.Limits as Limits;
-ghost use Rattle.vset.specs.Columns as Columns;
 ghost use Rattle.vhead.specs.Heads as Heads;
 ghost use Rattle.vhead.specs.Steps as Steps;
 
@@ -152,11 +154,13 @@ fn field_at(part: &[u8], fields: usize, i: usize) -> Numbers
     requires { ⌜ (fields ≡ Heads.headIn (now part) .fields) × (i < fields + 65536) ⌝ }
     ensures { λ r. ⌜ (r ≡ Heads.fieldAt (now (part .entry)) (Heads.headIn (now (part .entry))) i) × Steps.Narrow r ⌝ }
 {
+    let at = 10 + 2 * i;
+    let step = 2 * fields;
     Numbers {
-        code: wire::read16(part, 10 + 2 * i),
-        size: wire::read16(part, 10 + 2 * fields + 2 * i),
-        offset: wire::read16(part, 10 + 4 * fields + 2 * i),
-        order: wire::read16(part, 10 + 6 * fields + 2 * i),
+        code: wire::read16(part, at),
+        size: wire::read16(part, at + step),
+        offset: wire::read16(part, at + 2 * step),
+        order: wire::read16(part, at + 3 * step),
     }
 }
 
@@ -190,7 +194,7 @@ pub fn fault(part: &[u8]) -> usize
     if head.tail.version != VERSION {
         return RECORD;
     }
-    if MOST_INTERLACE < head.interlace {
+    if MOST_HEAD_INTERLACE < head.interlace {
         return RECORD;
     }
     if MOST_FIELDS < head.fields {
@@ -207,25 +211,28 @@ fn put_fields(part: &[u8], fields: usize, list: &mut [u16])
     let mut i = 0;
     while i < fields {
         let f = field_at(part, fields, i);
-        list[4 * i] = f.code as u16;
-        list[4 * i + 1] = f.size as u16;
-        list[4 * i + 2] = f.offset as u16;
-        list[4 * i + 3] = f.order as u16;
+        let row = 4 * i;
+        list[row] = f.code as u16;
+        list[row + 1] = f.size as u16;
+        list[row + 2] = f.offset as u16;
+        list[row + 3] = f.order as u16;
         i += 1;
     }
 }
 
 // Puts where the name of each field stands in the image and how long it is into the front of a list.
 fn put_names(part: &[u8], start: usize, fields: usize, list: &mut [u32])
-    requires { ⌜ (fields ≡ Heads.headIn (now part) .fields) × (fields ≤ Limits.most-fields) × (2 * fields ≤ length (now list)) × (start ≤ 2147483647) ⌝ }
+    requires { ⌜ (fields ≡ Heads.headIn (now part) .fields) × (fields ≤ Limits.most-fields) × (2 * fields ≤ length (now list))
+        × (start ≤ 2147483647) ⌝ }
     ensures { λ _. ⌜ now (list .exit) ≡ sets (now (list .entry)) 0 (Heads.headNames start (now (part .entry))) ⌝ }
 {
     let mut at = 10 + 8 * fields;
     let mut i = 0;
     while i < fields {
         let length = wire::read16(part, at);
-        list[2 * i] = (start + (at + 2)) as u32;
-        list[2 * i + 1] = length as u32;
+        let row = 2 * i;
+        list[row] = (start + (at + 2)) as u32;
+        list[row + 1] = length as u32;
         at += 2 + length;
         i += 1;
     }
@@ -251,21 +258,28 @@ pub fn field(part: &[u8], i: u16) -> NamedField
     }
 }
 
-// Finds the head of a reference, where there is room for so many fields.
-pub fn find(image: &[u8], reference: u16, room: usize) -> Answered
-    ensures answer { λ r. ⌜ Heads.headNumbers r ≡ Heads.headWithin (now (image .entry)) reference room ⌝ }
-    ensures held { λ r. ⌜ Steps.Held (now (image .entry)) reference room r ⌝ }
+// Finds the head of a reference, where there is room for so many fields, in a chain of so many blocks.
+pub fn find_in(image: &[u8], blocks: usize, reference: u16, room: usize) -> Answered
+    ensures answer { λ r. ⌜ (let s = now (image .entry) in
+        Heads.headNumbers r ≡ Heads.unlessLong 12 s (Heads.headAt s (findIn s blocks Limits.head-tag reference) room)) ⌝ }
+    ensures held { λ r. ⌜ (let s = now (image .entry) in Steps.Held s (findIn s blocks Limits.head-tag reference) room r) ⌝ }
 {
-    let located = storage::view::find_plain(image, HEAD_TAG, reference);
+    if MOST_BYTES < image.len() {
+        return Answered::Refused(Refusal {
+            number: TOO_LONG,
+            place: 0,
+        });
+    }
+    let located = element::locate(image, blocks, HEAD_TAG, reference);
     let Located::Plain {
         slot,
         offset,
         length,
     } = located
     else {
-        return Answered::Refused(storage::view::refusal_of(located));
+        return Answered::Refused(element::refusal_of(located));
     };
-    let part = &image[offset..offset + length];
+    let part = wire::part(image, offset, length);
     let number = fault(part);
     if number != 0 {
         return Answered::Refused(Refusal {
@@ -282,26 +296,59 @@ pub fn find(image: &[u8], reference: u16, room: usize) -> Answered
     }
     Answered::Values {
         start: offset,
-        size: length,
+        size: part.len(),
         head,
     }
 }
 
-// Reads the head of a reference: its numbers, four numbers a field to a lent list, and where the names stand to another.
-pub fn read(image: &[u8], reference: u16, fields: &mut [u16], names: &mut [u32]) -> Answered
-    ensures answer { λ r. ⌜ Heads.headNumbers r ≡ Heads.headOf (now (image .entry)) reference (length (now (fields .entry))) (length (now (names .entry))) ⌝ }
-    ensures fields { λ _. ⌜ now (fields .exit) ≡ laidOver (Heads.headOf (now (image .entry)) reference (length (now (fields .entry))) (length (now (names .entry)))) (Heads.headFields (recordBytes (now (image .entry)) Limits.head-tag reference)) (now (fields .entry)) ⌝ }
-    ensures names { λ _. ⌜ now (names .exit) ≡ laidOver (Heads.headOf (now (image .entry)) reference (length (now (fields .entry))) (length (now (names .entry)))) (Heads.headNames (Heads.startOf (now (image .entry)) reference) (recordBytes (now (image .entry)) Limits.head-tag reference)) (now (names .entry)) ⌝ }
+// The same in an image that is opened first.
+pub fn find(image: &[u8], reference: u16, room: usize) -> Answered
+    ensures answer { λ r. ⌜ Heads.headNumbers r ≡ Heads.headWithin (now (image .entry)) reference room ⌝ }
+    ensures held { λ r. ⌜ (let s = now (image .entry) in Steps.Held s (find s Limits.head-tag reference) room r) ⌝ }
+{
+    let opened = directory::open(image);
+    let Opened::Accepted(counts) = opened else {
+        return Answered::Refused(directory::refusal_of(opened));
+    };
+    find_in(image, counts.blocks, reference, room)
+}
+
+// Reads the head of a reference, in a chain of so many blocks: its numbers, four numbers a field to a lent list, and where the names
+// stand to another.
+pub fn read_in(
+    image: &[u8],
+    blocks: usize,
+    reference: u16,
+    fields: &mut [u16],
+    names: &mut [u32],
+) -> Answered
+    ensures { λ r. ⌜ (let s = now (image .entry) in let found = findIn s blocks Limits.head-tag reference in
+        let room = min (length (now (fields .entry)) / 4) (length (now (names .entry)) / 2) in
+        Heads.ReadsHead (Heads.unlessLong 12 s (Heads.headAt s found room)) s found
+        (now (fields .entry)) (now (fields .exit)) (now (names .entry)) (now (names .exit)) (Heads.headNumbers r)) ⌝ }
 {
     let room = wire::least(fields.len() / 4, names.len() / 2);
-    let found = find(image, reference, room);
+    let found = find_in(image, blocks, reference, room);
     let Answered::Values { start, size, head } = found else {
         return found;
     };
-    let part = &image[start..start + size];
+    let part = wire::part(image, start, size);
     put_fields(part, head.fields, fields);
     put_names(part, start, head.fields, names);
     found
+}
+
+// The same in an image that is opened first.
+pub fn read(image: &[u8], reference: u16, fields: &mut [u16], names: &mut [u32]) -> Answered
+    ensures { λ r. ⌜ (let s = now (image .entry) in
+        Heads.ReadsHead (Heads.headOf s reference (length (now (fields .entry))) (length (now (names .entry)))) s (find s Limits.head-tag reference)
+        (now (fields .entry)) (now (fields .exit)) (now (names .entry)) (now (names .exit)) (Heads.headNumbers r)) ⌝ }
+{
+    let opened = directory::open(image);
+    let Opened::Accepted(counts) = opened else {
+        return Answered::Refused(directory::refusal_of(opened));
+    };
+    read_in(image, counts.blocks, reference, fields, names)
 }
 
 // The numbers of the field of a row, in rows of type, size, offset and order.
@@ -309,18 +356,19 @@ fn row_at(rows: &[u16], i: usize) -> Numbers
     requires { ⌜ (4 * i + 4 ≤ length (now rows)) × (i < 65536) ⌝ }
     ensures { λ r. ⌜ (r ≡ Heads.rowAt (now (rows .entry)) i) × Steps.Narrow r ⌝ }
 {
+    let row = 4 * i;
     Numbers {
-        code: rows[4 * i] as usize,
-        size: rows[4 * i + 1] as usize,
-        offset: rows[4 * i + 2] as usize,
-        order: rows[4 * i + 3] as usize,
+        code: rows[row] as usize,
+        size: rows[row + 1] as usize,
+        offset: rows[row + 2] as usize,
+        order: rows[row + 3] as usize,
     }
 }
 
 // The number of the rule that the fields of rows break, 0 where they break none.
 fn rows_fault(rows: &[u16], count: usize, record_size: usize) -> usize
     requires { ⌜ (length (now rows) ≡ 4 * count) × (count ≤ Limits.most-fields) ⌝ }
-    ensures { λ r. ⌜ r ≡ Heads.fieldsFault record_size (Heads.fieldsIn (now (rows .entry)) count 0) ⌝ }
+    ensures { λ r. ⌜ r ≡ Heads.fieldsFault record_size (Heads.fieldsIn (now (rows .entry)) count) ⌝ }
 {
     let mut so_far = Judged {
         orders: true,
@@ -370,7 +418,7 @@ fn pack_fault(
     if names != total(lengths) {
         return RECORD;
     }
-    if MOST_INTERLACE < b.interlace as usize {
+    if MOST_HEAD_INTERLACE < b.interlace as usize {
         return RECORD;
     }
     let number = tail::pack_fault(name, class, version);
@@ -382,7 +430,8 @@ fn pack_fault(
 
 // Lays the names, which stand one after the other, each with its length before it, from a place of a buffer on.
 fn lay_names(out: &mut [u8], at: usize, lengths: &[u16], names: &[u8])
-    requires { ⌜ (length (now names) ≡ Heads.total (now lengths)) × (at + 2 * length (now lengths) + length (now names) ≤ length (now out)) ⌝ }
+    requires { ⌜ (length (now names) ≡ Heads.total (now lengths))
+        × (at + 2 * length (now lengths) + length (now names) ≤ length (now out)) ⌝ }
     ensures { λ _. ⌜ now (out .exit) ≡ put (now (out .entry)) at (Steps.namesBytes (now (lengths .entry)) (now (names .entry))) ⌝ }
 {
     let mut from = 0;
@@ -391,7 +440,7 @@ fn lay_names(out: &mut [u8], at: usize, lengths: &[u16], names: &[u8])
         let n = lengths[i] as usize;
         let to = at + 2 * i + from;
         wire::write16(out, to, n);
-        wire::write_bytes(out, to + 2, &names[from..from + n]);
+        wire::write_bytes(out, to + 2, wire::part(names, from, n));
         from += n;
         i += 1;
     }
@@ -430,7 +479,10 @@ pub fn pack(
     x: Ending,
     out: &mut [u8],
 ) -> Packed
-    ensures { λ r. ⌜ Packs (Heads.headPackFault b (now (rows .entry)) (now (lengths .entry)) (length (now (names .entry))) (length (now (name .entry))) (length (now (class .entry))) (x .version)) (Heads.headBytes b (now (rows .entry)) (now (lengths .entry)) (now (names .entry)) (now (name .entry)) (now (class .entry)) x) (now (out .entry)) (now (out .exit)) r ⌝ }
+    ensures { λ r. ⌜ (let rows = now (rows .entry) in let lengths = now (lengths .entry) in let all = now (names .entry) in
+        let name = now (name .entry) in let class = now (class .entry) in
+        Packs (Heads.headPackFault b rows lengths (length all) (length name) (length class) (x .version))
+        (Heads.headBytes b rows lengths all name class x) (now (out .entry)) (now (out .exit)) (packedNumbers r)) ⌝ }
 {
     let number = pack_fault(
         b,

@@ -2,4 +2,3 @@
 pub mod field;
 pub mod format;
 pub mod head;
-pub mod refusals;

@@ -1,3 +1,2 @@
-pub mod Rows
-pub mod Tailings
-pub mod Placing
+pub mod Columns
+pub mod Tails

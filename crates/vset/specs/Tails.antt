@@ -4,16 +4,17 @@ use mathlib.Core.List.{List, [], _∷_, _++_}
 use lib.ListN.{length}
 use lib.Dec.{leb, eqb}
 use Rattle.wire.specs.Numbers.{be}
-use Rattle.directory.specs.Search.{must}
-use Rattle.records.specs.Limits.{most-count, RECORD}
-use Rattle.records.specs.Layout.{Layout, end, number, run}
+use Rattle.answer.specs.Search.{must}
+use Rattle.records.specs.Limits.{most-count}
+use Rattle.answer.specs.Refusals.{RECORD}
+use Rattle.wire.specs.Layouts.{Layout, end, number, run}
 use Rattle.vset.specs.Limits.{only-version}
 use Rattle.vset.specs.declared.tail.Tail.{Tail}
 use Rattle.vset.specs.declared.tail.Ending.{Ending}
 
 -- a length and as many bytes, told where they start and how many they are
 abbrev pub text : {A : Type 0} → (ℕ → ℕ → Layout A) → Layout A
-text then = number 2 (λ length. run 1 length (λ at. then at length))
+text then = number 2 (λ size. run 1 size (λ at. then at size))
 
 -- where so many names end, each with its length before it
 unfoldable pub namesEnd : List ℕ → ℕ → ℕ → ℕ

@@ -3,7 +3,7 @@ ghost use mathlib.Core.Path.{_≡_};
 ghost use Prim.Native.Nat.{_<_};
 ghost use lib.ListN.{getD};
 ghost use Rattle.wire.specs.Numbers.{put};
-ghost use Rattle.records.specs.Layout.{bytesEach};
+ghost use Rattle.wire.specs.Layouts.{bytesEach};
 ghost use Rattle.vset.specs.Columns.{every};
 
 // The entry of an index, 0 past the end of the table.

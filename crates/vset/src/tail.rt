@@ -1,12 +1,12 @@
 // The fields that a Vgroup and a Vdata head end in.
 use super::format::VERSION;
+use answer::refusals::RECORD;
 use records::format::MOST_COUNT;
-use records::refusals::RECORD;
 ghost use mathlib.Core.Path.{_≡_};
 ghost use Prim.Native.Nat.{_≤_, _<_};
 ghost use lib.ListN.{length};
 ghost use Rattle.wire.specs.Numbers.{put};
-ghost use Rattle.records.specs.Layout as Layout;
+ghost use Rattle.wire.specs.Layouts as Layout;
 ghost use Rattle.vset.specs.Tails as Tails;
 ghost use Rattle.vset.specs.Steps as Steps;
 
@@ -105,7 +105,8 @@ fn lay_ending(out: &mut [u8], at: usize, x: Ending)
 
 // Lays a tail from a place of a buffer on. What would fall past its end is dropped.
 pub fn lay(out: &mut [u8], at: usize, name: &[u8], class: &[u8], x: Ending)
-    ensures { λ _. ⌜ now (out .exit) ≡ put (now (out .entry)) at (Layout.pack (Tails.tail (λ t. t)) (Tails.tailNumbers (now (name .entry)) (now (class .entry)) x) at) ⌝ }
+    ensures { λ _. ⌜ now (out .exit) ≡ put (now (out .entry)) at
+        (Layout.pack (Tails.tail (λ t. t)) (Tails.tailNumbers (now (name .entry)) (now (class .entry)) x) at) ⌝ }
 {
     if out.len() <= at {
         return;

@@ -1,17 +1,17 @@
 -- The laws of numbers in bytes, each once over the width: frame, append, split, put after put, read after write, write after read.
 -- Assumes nothing.
 use Prim.Native.Nat.{ℕ, zero, suc, _+_, _*_, _/_, _%_, _^_, _-_, _<_, _≤_, min}
-use native.Mathlib.Nat.{add-zero, add-suc, suc-add, pow-suc, pow-succ', pow-le-pow-right, one-le-pow, mul-assoc, add-assoc, mul-one, div-one, div-div-eq-div-mul}
+use native.Mathlib.Nat.{add-zero, zero-add, add-suc, pow-suc, pow-succ', pow-le-pow-right, one-le-pow, mul-assoc, add-assoc, mul-one, div-one, div-div-eq-div-mul}
 use native.Mathlib.Omega.{arith}
 use native.Mathlib.Numerals.{add-one}
 use mathlib.Core.Path.{_≡_, refl, sym, ap, _∙_}
 use mathlib.Core.List.{List, [], _∷_, _++_, append-assoc, append-nil}
-use mathlib.Core.Logic.{_⊎_, inl, inr, ⊎-elim}
+use mathlib.Core.Logic.{_⊎_, inl, inr}
 use mathlib.Core.Bool.{Bool, true, false}
 use lib.Dec.{ltb}
 use borrow.Author.Tests.{ltb-true, ltb-false}
-use lib.ListN.{length, getD, take, drop, set, take-append-drop, length-append, length-set, length-drop, List·getD-eq-default, List·getD-append}
-use lib.Seq.{sets, length-sets, sets-eq, set-out, set-append-left, getD-append-add, getD-append-seam, getD-set-same, getD-set-other, getD-drop, take-suc, take-length, length-take-le}
+use lib.ListN.{length, getD, take, drop, set, take-append-drop, length-append, length-set, length-drop, drop-of-length-le, List·getD-eq-default, List·getD-append}
+use lib.Seq.{sets, length-sets, sets-eq, set-out, set-append-left, getD-append-add, getD-append-seam, getD-set-same, getD-set-other, getD-drop, take-suc, take-all, take-nil, take-length, length-take-le}
 use Rattle.wire.specs.Numbers.{be, bytes, put, part, Bytes, Reads}
 
 -- the bytes of s and t from a up to e are the same
@@ -249,3 +249,42 @@ put-clipped s at vs h = go (ltb (length s - at) (length vs)) refl
         let l : length vs ≤ length s - at = ltb-false _ _ e in
         let m : min (length s - at) (length vs) ≡ length vs = omega arith in
         rw m (ap (put s at) (take-length vs))
+
+-- bytes put at the front
+pub put-front : (s vs : List ℕ) → length vs ≤ length s → put s 0 vs ≡ vs ++ drop (length vs) s
+put-front s vs h = put-split s 0 vs (omega arith) ∙ ap (λ n. vs ++ drop n s) (zero-add (length vs))
+
+-- what is put into no bytes leaves them: a walk that only judges
+pub put-nowhere : (out vs after : List ℕ) → after ≡ put [] 0 vs → after ++ out ≡ out
+put-nowhere out vs after e = ap (λ l. l ++ out) (e ∙ put-past [] 0 vs (omega arith))
+
+-- ---- Parts
+
+pub length-part : (s : List ℕ) (at n : ℕ) → at + n ≤ length s → length (part s at n) ≡ n
+unfolding part
+length-part s at n h = length-take-le n (drop at s) (rw length-drop (omega arith))
+
+-- a part by a start and an end that reach no further than the list
+pub part-clipped : (s : List ℕ) (at n a k : ℕ) → a ≡ min at (length s) → k ≡ min n (length s - a) → take (a + k - a) (drop a s) ≡ part s at n
+unfolding part
+part-clipped s at n a k e f = go (ltb at (length s)) refl
+  where
+    width : a + k - a ≡ k
+    width = omega arith
+
+    go : (b : Bool) → ltb at (length s) ≡ b → take (a + k - a) (drop a s) ≡ take n (drop at s)
+    go false l =
+        let h : length s ≤ at = ltb-false _ _ l in
+        let i : length s ≤ a = omega arith in
+        rw (drop-of-length-le s {i = at} h, drop-of-length-le s {i = a} i) (take-nil (a + k - a) ∙ sym (take-nil n))
+    go true l =
+        let h : at < length s = ltb-true _ _ l in
+        let i : a ≡ at = omega arith in
+        rw (width, i) (upto (ltb n (length s - at)) refl (ap (λ x. min n (length s - x)) i))
+      where
+        upto : (b : Bool) → ltb n (length s - at) ≡ b → min n (length s - a) ≡ min n (length s - at) → take k (drop at s) ≡ take n (drop at s)
+        upto true q j = let l : n < length s - at = ltb-true _ _ q in let m : k ≡ n = omega arith in ap (λ x. take x (drop at s)) m
+        upto false q j =
+            let g : length s - at ≤ n = ltb-false _ _ q in
+            let m : length (drop at s) ≡ length s - at = length-drop at s in
+            take-all k (drop at s) (omega arith) ∙ sym (take-all n (drop at s) (omega arith))

@@ -4,6 +4,7 @@
 ghost use mathlib.Core.Path.{_≡_};
 ghost use Prim.Native.Nat.{_+_, _<_, _≤_, min};
 ghost use lib.ListN.{length};
+ghost use Rattle.wire.specs.Numbers as Numbers;
 ghost use Rattle.wire.specs.Numbers.{bytes, put, Reads};
 
 fn wide(x: u8) -> usize
@@ -130,4 +131,13 @@ pub fn write_bytes(s: &mut [u8], at: usize, vs: &[u8])
         s[at + i] = vs[i];
         i += 1;
     }
+}
+
+// So many bytes from a place on, as far as they reach.
+pub fn part(s: &[u8], at: usize, count: usize) -> &[u8]
+    ensures { λ r. ⌜ now r ≡ Numbers.part (now (s .entry)) at count ⌝ }
+{
+    let start = least(at, s.len());
+    let end = start + least(count, s.len() - start);
+    &s[start..end]
 }

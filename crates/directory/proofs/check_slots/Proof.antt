@@ -9,14 +9,14 @@ use mathlib.Core.Bool.{false}
 use lib.Seq.{length-take-le}
 use lib.ListN.{length, getD, take, drop}
 use borrow.Author.Needs.{needs}
-use Rattle.directory.specs.Search.{any}
+use Rattle.answer.specs.Search.{any}
 use Rattle.directory.specs.Slots.{slotPlaces, clash}
-use Rattle.directory.specs.Cursor.{Stands, ahead, stepped}
-use Rattle.directory.specs.Gap.{Between}
+use Rattle.directory.specs.Steps.Cursors.{Stands, ahead, stepped}
+use Rattle.directory.specs.Steps.Gaps.{Between}
 use Rattle.directory.specs.declared.cursor.Cursor.{Cursor}
 use Rattle.directory.specs.declared.gap.Gap.{Gap}
 use Rattle.directory.specs.declared.highest.Highest.{Highest}
-use Rattle.directory.proofs.Search
+use Rattle.answer.proofs.Search
 use Rattle.directory.proofs.Cursors
 use Rattle.directory.proofs.Gaps
 use Rattle.directory.proofs.References

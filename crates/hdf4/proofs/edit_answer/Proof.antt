@@ -1,6 +1,6 @@
 -- `hdf4::edit_answer` meets its contract. Assumes nothing.
 use mathlib.Core.Path.{sym, ap}
-use Rattle.journal.specs.Outcome.{editedNumbers}
+use Rattle.journal.specs.Outcomes.{editedNumbers}
 use borrow.Author.Needs.{needs}
 use Rattle.hdf4.proofs.edit_answer.Statement.{statement}
 use Rattle.hdf4.proofs.edit_answer.Tie as tie

@@ -1,6 +1,6 @@
 -- `hdf4::hdf4_choose` meets its contract. Assumes nothing.
 use mathlib.Core.Path.{sym, ap, _∙_}
-use Rattle.storage.specs.Choose.{chosenNumbers}
+use Rattle.storage.specs.Choices.{chosenNumbers}
 use borrow.Author.Needs.{needs}
 use Rattle.hdf4.proofs.hdf4_choose.Statement.{statement}
 use Rattle.hdf4.proofs.hdf4_choose.Tie as tie

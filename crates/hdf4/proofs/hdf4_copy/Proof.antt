@@ -1,6 +1,7 @@
 -- `hdf4::hdf4_copy` meets its contract. Assumes nothing.
-use mathlib.Core.Path.{sym, ap, _∙_}
-use Rattle.storage.specs.Copy.{copiedNumbers}
+use mathlib.Core.Path.{sym, ap}
+use Rattle.storage.specs.Copies.{copiedNumbers}
+use Rattle.answer.proofs.Lent
 use borrow.Author.Needs.{needs}
 use Rattle.hdf4.proofs.hdf4_copy.Statement.{statement}
 use Rattle.hdf4.proofs.hdf4_copy.Tie as tie
@@ -18,13 +19,13 @@ same-length : tie.Need-same-length
 same-length c = search needs
 
 returns : tie.Need-returns
-returns c = (ap copiedNumbers (sym (c .before .copied .given .1)) ∙ c .before .before .before .before .before .copy .ensures .answers, c .before .before .before .before .before .copy .ensures .leaves)
+returns c = Lent.restated (ap copiedNumbers (sym (c .before .copied .given .1))) (c .before .before .before .before .before .copy .ensures)
 
 same-length-2 : tie.Need-same-length-2
 same-length-2 c = search needs
 
 returns-2 : tie.Need-returns-2
-returns-2 c = (ap copiedNumbers (sym (c .before .copied2 .given .1)) ∙ c .before .before .before .before .before .copy .ensures .answers, c .before .before .before .before .before .copy .ensures .leaves)
+returns-2 c = Lent.restated (ap copiedNumbers (sym (c .before .copied2 .given .1))) (c .before .before .before .before .before .copy .ensures)
 
 pub hdf4-copy-spec : {M : Type 1} → statement M
 hdf4-copy-spec =

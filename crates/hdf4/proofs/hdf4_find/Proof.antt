@@ -1,6 +1,6 @@
 -- `hdf4::hdf4_find` meets its contract. Assumes nothing.
 use mathlib.Core.Path.{sym, ap, _∙_}
-use Rattle.directory.specs.Answer.{foundNumbers}
+use Rattle.directory.specs.Lookup.{foundNumbers}
 use borrow.Author.Needs.{needs}
 use Rattle.hdf4.proofs.hdf4_find.Statement.{statement}
 use Rattle.hdf4.proofs.hdf4_find.Tie as tie

@@ -1,6 +1,7 @@
 -- `hdf4::hdf4_list` meets its contract. Assumes nothing.
-use mathlib.Core.Path.{sym, ap, _∙_}
-use Rattle.directory.specs.Listing.{listedNumbers}
+use mathlib.Core.Path.{sym, ap}
+use Rattle.directory.specs.Descriptors.{listedNumbers}
+use Rattle.answer.proofs.Lent
 use borrow.Author.Needs.{needs}
 use Rattle.hdf4.proofs.hdf4_list.Statement.{statement}
 use Rattle.hdf4.proofs.hdf4_list.Tie as tie
@@ -18,13 +19,13 @@ same-length : tie.Need-same-length
 same-length c = search needs
 
 returns : tie.Need-returns
-returns c = (ap listedNumbers (sym (c .before .listed .given .1)) ∙ c .before .before .before .before .before .list .ensures .0, c .before .before .before .before .before .list .ensures .1)
+returns c = Lent.restated (ap listedNumbers (sym (c .before .listed .given .1))) (c .before .before .before .before .before .list .ensures)
 
 same-length-2 : tie.Need-same-length-2
 same-length-2 c = search needs
 
 returns-2 : tie.Need-returns-2
-returns-2 c = (ap listedNumbers (sym (c .before .listed2 .given .1)) ∙ c .before .before .before .before .before .list .ensures .0, c .before .before .before .before .before .list .ensures .1)
+returns-2 c = Lent.restated (ap listedNumbers (sym (c .before .listed2 .given .1))) (c .before .before .before .before .before .list .ensures)
 
 pub hdf4-list-spec : {M : Type 1} → statement M
 hdf4-list-spec =

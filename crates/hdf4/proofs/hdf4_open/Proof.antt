@@ -1,6 +1,6 @@
 -- `hdf4::hdf4_open` meets its contract. Assumes nothing.
 use mathlib.Core.Path.{sym, ap, _∙_}
-use Rattle.directory.specs.Answer.{openedNumbers}
+use Rattle.directory.specs.Opening.{openedNumbers}
 use borrow.Author.Needs.{needs}
 use Rattle.hdf4.proofs.hdf4_open.Statement.{statement}
 use Rattle.hdf4.proofs.hdf4_open.Tie as tie

@@ -1,5 +1,5 @@
 -- `hdf4::hdf4_remove` meets its contract. Assumes nothing.
-use mathlib.Core.Path.{_∙_}
+use Rattle.answer.proofs.Lent
 use borrow.Author.Needs.{needs}
 use Rattle.hdf4.proofs.hdf4_remove.Statement.{statement}
 use Rattle.hdf4.proofs.hdf4_remove.Tie as tie
@@ -14,7 +14,7 @@ same-length : tie.Need-same-length
 same-length c = search needs
 
 returns : tie.Need-returns
-returns c = record { answer = c .edit-answer .ensures ∙ c .before .before .before .remove .ensures .answer; lent = c .before .before .before .remove .ensures .lent }
+returns c = Lent.restated (c .edit-answer .ensures) (c .before .before .before .remove .ensures)
 
 pub hdf4-remove-spec : {M : Type 1} → statement M
 hdf4-remove-spec = tie.close (tie.spec remove-requires edit-answer-requires same-length returns)

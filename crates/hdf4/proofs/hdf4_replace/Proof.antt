@@ -1,5 +1,5 @@
 -- `hdf4::hdf4_replace` meets its contract. Assumes nothing.
-use mathlib.Core.Path.{_∙_}
+use Rattle.answer.proofs.Lent
 use borrow.Author.Needs.{needs}
 use Rattle.hdf4.proofs.hdf4_replace.Statement.{statement}
 use Rattle.hdf4.proofs.hdf4_replace.Tie as tie
@@ -14,7 +14,7 @@ same-length : tie.Need-same-length
 same-length c = search needs
 
 returns : tie.Need-returns
-returns c = record { answer = c .edit-answer .ensures ∙ c .before .before .before .replace .ensures .answer; lent = c .before .before .before .replace .ensures .lent }
+returns c = Lent.restated (c .edit-answer .ensures) (c .before .before .before .replace .ensures)
 
 pub hdf4-replace-spec : {M : Type 1} → statement M
 hdf4-replace-spec = tie.close (tie.spec replace-requires edit-answer-requires same-length returns)

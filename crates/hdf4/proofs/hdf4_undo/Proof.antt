@@ -1,5 +1,5 @@
 -- `hdf4::hdf4_undo` meets its contract. Assumes nothing.
-use mathlib.Core.Path.{_∙_}
+use Rattle.answer.proofs.Lent
 use borrow.Author.Needs.{needs}
 use Rattle.hdf4.proofs.hdf4_undo.Statement.{statement}
 use Rattle.hdf4.proofs.hdf4_undo.Tie as tie
@@ -14,7 +14,7 @@ same-length : tie.Need-same-length
 same-length c = search needs
 
 returns : tie.Need-returns
-returns c = record { answer = c .edit-answer .ensures ∙ c .before .before .before .undo .ensures .answer; lent = c .before .before .before .undo .ensures .lent }
+returns c = Lent.restated (c .edit-answer .ensures) (c .before .before .before .undo .ensures)
 
 pub hdf4-undo-spec : {M : Type 1} → statement M
 hdf4-undo-spec = tie.close (tie.spec undo-requires edit-answer-requires same-length returns)

@@ -1,6 +1,6 @@
 -- `hdf4::hdf4_view` meets its contract. Assumes nothing.
 use mathlib.Core.Path.{sym, ap, _∙_}
-use Rattle.storage.specs.View.{viewedNumbers}
+use Rattle.storage.specs.Views.{viewedNumbers}
 use borrow.Author.Needs.{needs}
 use Rattle.hdf4.proofs.hdf4_view.Statement.{statement}
 use Rattle.hdf4.proofs.hdf4_view.Tie as tie

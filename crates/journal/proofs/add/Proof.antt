@@ -1,23 +1,12 @@
 -- `journal::add` meets its contract. Assumes nothing.
-use native.Mathlib.Omega.{arith}
-use mathlib.Core.Path.{sym, ap, subst}
-use lib.Seq.{length-take-le}
-use Rattle.journal.specs.Change.{Targets}
-use Rattle.journal.proofs.Laid
-use Rattle.journal.proofs.Adding
-use Rattle.journal.proofs.Calls
+use mathlib.Core.Path.{subst}
+use Rattle.journal.specs.Steps.Changes.{Targets}
+use Rattle.journal.proofs.Buffers
+use Rattle.journal.specs.Edits.{addOf}
+use Rattle.journal.specs.Buffers.{addIn}
 use borrow.Author.Needs.{needs}
 use Rattle.journal.proofs.add.Statement.{statement}
 use Rattle.journal.proofs.add.Tie as tie
-
-returns : tie.Need-returns
-returns c = Laid.refuses _ _ _ (Calls.add-outside _ _ _ _ _ (c .if1 .taken))
-
-slice-reshare-prefix-meet : tie.Need-slice-reshare-prefix-meet
-slice-reshare-prefix-meet c = search needs
-
-slice-aggregate-meet : tie.Need-slice-aggregate-meet
-slice-aggregate-meet c = sym (length-take-le _ _ (omega arith))
 
 meet-requires : tie.Need-meet-requires
 meet-requires c κs = search needs
@@ -33,48 +22,44 @@ enum-known-met-2 c = search needs
 
 put-new-requires : tie.Need-put-new-requires
 put-new-requires c κs =
-    let t = subst (Targets _ _ _) (c .before .before .met2 .given .1) (c .before .before .before .before .meet .ensures) in
-    (c .before .before .before .before .before .before .if1 .left, t .0)
+    let t = subst (Targets _ _ _ _) (c .before .before .met2 .given .1) (c .before .before .before .before .meet .ensures) in
+    (t .0 .fits, t .2)
 
 same-length : tie.Need-same-length
 same-length c = search needs
 
-returns-2 : tie.Need-returns-2
-returns-2 c =
-    let t = subst (Targets _ _ _) (c .before .met .given .1) (c .before .before .before .meet .ensures) in
-    Laid.refuses _ _ _ (Calls.add-stops _ _ _ _ _ (c .before .before .before .before .before .if1 .left) _ t)
+returns : tie.Need-returns
+unfolding addIn addOf
+returns c = Buffers.edit-stops _ _ _ _ _ (subst (Targets _ _ _ _) (c .before .met .given .1) (c .before .before .before .meet .ensures))
 
 same-length-2 : tie.Need-same-length-2
 same-length-2 c = search needs
 
-returns-3 : tie.Need-returns-3
-returns-3 c =
-    let t = subst (Targets _ _ _) (c .enum-told .given .1) (c .before .before .meet .ensures) in
-    Laid.refuses _ _ _ (Calls.add-present _ _ _ _ _ (c .before .before .before .before .if1 .left) (t .0) (t .1) _ (t .2))
+returns-2 : tie.Need-returns-2
+returns-2 c =
+    let t = subst (Targets _ _ _ _) (c .enum-told .given .1) (c .before .before .meet .ensures) in
+    Buffers.add-present _ _ _ (t .0) _ _ (t .1) _
 
 same-length-3 : tie.Need-same-length-3
 same-length-3 c = search needs
 
-returns-4 : tie.Need-returns-4
-returns-4 c =
-    let t = subst (Targets _ _ _) (c .before .before .before .before .before .met2 .given .1) (c .before .before .before .before .before .before .before .meet .ensures) in
-    Laid.does-same _ _ _ _ _ (Calls.add-absent _ _ _ _ _ (c .before .before .before .before .before .before .before .before .before .if1 .left) (ap (λ x. x .number) (t .0)) (t .1) (t .2)) (c .before .before .put-new .ensures)
+returns-3 : tie.Need-returns-3
+returns-3 c =
+    let t = subst (Targets _ _ _ _) (c .before .before .before .before .before .met2 .given .1) (c .before .before .before .before .before .before .before .meet .ensures) in
+    Buffers.add-absent _ _ _ (t .0) _ (t .1) _ _ (c .before .before .put-new .result) (c .before .before .put-new .ensures)
 
 pub add-spec : {M : Type 1} → statement M
 add-spec =
     tie.close
     (tie.spec
-    returns
-    slice-reshare-prefix-meet
-    slice-aggregate-meet
     meet-requires
     enum-known-met
     enum-told
     enum-known-met-2
     put-new-requires
     same-length
-    returns-2
+    returns
     same-length-2
-    returns-3
+    returns-2
     same-length-3
-    returns-4)
+    returns-3)

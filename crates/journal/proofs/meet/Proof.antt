@@ -1,17 +1,26 @@
 -- `journal::meet` meets its contract. Assumes nothing.
-use mathlib.Core.Path.{sym, ap, _∙_}
-use Rattle.directory.specs.Search.{first}
-use Rattle.directory.specs.Cursor.{slotsAfter}
-use Rattle.directory.specs.Lookup.{find, has}
-use Rattle.directory.proofs.Rules
-use Rattle.journal.specs.Edit.{tagged}
-use Rattle.journal.proofs.Judged
+use mathlib.Core.Path.{sym, ap, subst, _∙_}
+use lib.Seq.{length-take-le}
+use Rattle.directory.proofs.Opens
+use Rattle.directory.specs.declared.Opened.the-variants.{Accepted}
+use Rattle.journal.specs.Edits.{tagged}
+use Rattle.journal.specs.Steps.Changes.{OpensIn, Editable}
+use Rattle.journal.proofs.Outcomes
+use Rattle.journal.proofs.Buffers
 use borrow.Author.Needs.{needs}
 use Rattle.journal.proofs.meet.Statement.{statement}
 use Rattle.journal.proofs.meet.Tie as tie
 
-open-requires : tie.Need-open-requires
-open-requires c κs = search needs
+opened-at : (c : tie.After-opened) → let a = c .before .before .before .before .args in OpensIn (a .buffer .now) (a .n) (Accepted (c .opened .given .0 .0))
+opened-at c = subst (OpensIn _ _) (c .opened .given .1) (c .before .before .open-in .ensures)
+
+editable : (c : tie.Else1) → let a = c .before .before .before .before .before .before .before .args in Editable (a .buffer .now) (a .n) (a .tag)
+editable c =
+    let o = opened-at (c .before .before .before) in
+    record { fits = o .0; opens = ap (λ a. a .number) (o .1); good = sym (c .before .bad-tag .ensures) ∙ c .if1 .left }
+
+open-in-requires : tie.Need-open-in-requires
+open-in-requires c κs = search needs
 
 enum-known-opened : tie.Need-enum-known-opened
 enum-known-opened c = search needs
@@ -24,13 +33,18 @@ refusal-of-requires c κs = search needs
 
 returns : tie.Need-returns
 unfolding tagged
-returns c = λ rest. rw (c .refusal-of .ensures) (Judged.opened-stops _ _ (c .before .before .before .«open» .ensures) _ (c .before .enum-told .given .1) _)
+returns c = λ rest. rw (c .refusal-of .ensures) (Buffers.closed-in _ _ _ (c .before .before .before .open-in .ensures) _ (c .before .enum-told .given .1) _)
 
 bad-tag-requires : tie.Need-bad-tag-requires
 bad-tag-requires c κs = search needs
 
 returns-2 : tie.Need-returns-2
-returns-2 c = Judged.tagged-bad _ _ (ap (λ a. a .number) (Rules.accepted-is _ _ (c .before .before .before .before .before .«open» .ensures) _ (c .before .before .before .opened .given .1))) (sym (c .before .bad-tag .ensures) ∙ c .if1 .taken)
+returns-2 c =
+    let o = opened-at (c .before .before .before) in
+    λ rest. Buffers.inside _ _ _ (o .0) ∙ Outcomes.tagged-bad _ _ (ap (λ a. a .number) (o .1)) (sym (c .before .bad-tag .ensures) ∙ c .if1 .taken) rest
+
+slice-aggregate-find-slot : tie.Need-slice-aggregate-find-slot
+slice-aggregate-find-slot c = sym (length-take-le _ _ (opened-at (c .before .before .before .before) .0))
 
 find-slot-requires : tie.Need-find-slot-requires
 find-slot-requires c κs = search needs
@@ -42,40 +56,27 @@ enum-told-2 : tie.Need-enum-told-2
 enum-told-2 c = search needs
 
 returns-3 : tie.Need-returns-3
-unfolding find
 returns-3 c =
-    let o = Rules.accepted-is _ _ (c .before .before .before .before .before .before .before .before .before .«open» .ensures) _ (c .before .before .before .before .before .before .before .opened .given .1) in
-    let a = c .before .before .before .before .before .before .before .before .before .before .before .args in
-    let blocks = c .before .before .before .before .before .before .before .opened .given .0 .0 .blocks in
-    let slots = Rules.opened-slots _ _ _ _ o in (
-      ap (λ a. a .number) o,
-      sym (c .before .before .before .before .before .bad-tag .ensures) ∙ c .before .before .before .before .if1 .left,
-      sym (ap (first (has (a .image .now) (a .tag) (a .reference))) slots) ∙ Judged.found-hit (first (has (a .image .now) (a .tag) (a .reference)) (slotsAfter (a .image .now) blocks 4)) _ (sym (c .before .before .before .find-slot .ensures) ∙ c .before .found .given .1),
-    )
+    let o = opened-at (c .before .before .before .before .before .before .before .before) in
+    (editable (c .before .before .before .before .before), Outcomes.found-hit _ _ _ _ (Opens.opened-with _ _ _ _ (o .1)) _ (c .before .before .before .find-slot .ensures) _ (c .before .found .given .1))
 
 returns-4 : tie.Need-returns-4
-unfolding find
 returns-4 c =
-    let o = Rules.accepted-is _ _ (c .before .before .before .before .before .before .before .before .«open» .ensures) _ (c .before .before .before .before .before .before .opened .given .1) in
-    let a = c .before .before .before .before .before .before .before .before .before .before .args in
-    let blocks = c .before .before .before .before .before .before .opened .given .0 .0 .blocks in
-    let slots = Rules.opened-slots _ _ _ _ o in (
-      o,
-      sym (c .before .before .before .before .bad-tag .ensures) ∙ c .before .before .before .if1 .left,
-      sym (ap (first (has (a .image .now) (a .tag) (a .reference))) slots) ∙ Judged.found-miss (first (has (a .image .now) (a .tag) (a .reference)) (slotsAfter (a .image .now) blocks 4)) _ (sym (c .before .before .find-slot .ensures) ∙ c .enum-told2 .given .1),
-    )
+    let o = opened-at (c .before .before .before .before .before .before .before) in
+    (editable (c .before .before .before .before), Outcomes.found-miss _ _ _ _ (Opens.opened-with _ _ _ _ (o .1)) _ (c .before .before .find-slot .ensures) _ (c .enum-told2 .given .1), o .1)
 
 pub meet-spec : {M : Type 1} → statement M
 meet-spec =
     tie.close
     (tie.spec
-    open-requires
+    open-in-requires
     enum-known-opened
     enum-told
     refusal-of-requires
     returns
     bad-tag-requires
     returns-2
+    slice-aggregate-find-slot
     find-slot-requires
     enum-known-found
     enum-told-2

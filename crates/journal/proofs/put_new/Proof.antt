@@ -2,7 +2,6 @@
 use native.Mathlib.Omega.{arith}
 use mathlib.Core.Path.{sym, _∙_}
 use lib.Seq.{length-take-le}
-use Rattle.journal.proofs.Laid
 use Rattle.journal.proofs.Adding
 use borrow.Author.Needs.{needs}
 use Rattle.journal.proofs.put_new.Statement.{statement}
@@ -21,11 +20,7 @@ enum-known-room : tie.Need-enum-known-room
 enum-known-room c = search needs
 
 put-slot-requires : tie.Need-put-slot-requires
-put-slot-requires c κs =
-    let a = c .before .before .before .before .before .before .before .before .args in
-    let q = c .before .before .before .before .before .before .before .before .pre in
-    let room = sym (c .before .before .before .before .find-room .ensures) ∙ c .before .before .room .given .1 in
-    (Adding.image-short (a .buffer .now) (a .n) _ _ _ (q .0) (q .1), q .0, Adding.slot-room (a .buffer .now) (a .n) _ _ _ (q .0) (q .1) _ room)
+put-slot-requires c κs = Adding.slot-room _ _ _ _ _ (c .before .before .before .before .before .before .before .before .pre .0) (c .before .before .before .before .before .before .before .before .pre .1) _ (sym (c .before .before .before .before .find-room .ensures) ∙ c .before .before .room .given .1)
 
 enum-known-room-2 : tie.Need-enum-known-room-2
 enum-known-room-2 c = search needs
@@ -34,54 +29,35 @@ same-length : tie.Need-same-length
 same-length c = search needs
 
 returns : tie.Need-returns
-returns c =
-    let a = c .before .before .before .before .before .before .before .before .before .args in
-    let q = c .before .before .before .before .before .before .before .before .before .pre in
-    let room = sym (c .before .before .before .before .before .find-room .ensures) ∙ c .before .before .before .room2 .given .1 in
-    Laid.refuses _ _ _ (Adding.add-blocks (a .buffer .now) (a .n) _ _ _ (q .0) (q .1) _ room _ _ _ _ (c .if1 .taken))
+returns c = Adding.add-blocks _ _ _ _ _ (c .before .before .before .before .before .before .before .before .before .pre .0) (c .before .before .before .before .before .before .before .before .before .pre .1) _ (sym (c .before .before .before .before .before .find-room .ensures) ∙ c .before .before .before .room2 .given .1) _ _ _ (c .if1 .taken)
 
 add-if2 : tie.Need-add-if2
-add-if2 c =
-    let a = c .before .before .before .before .before .before .before .before .before .before .args in
-    let q = c .before .before .before .before .before .before .before .before .before .before .pre in
-    omega (arith, Adding.slots-few (a .buffer .now) (a .n) _ _ _ (q .0) (q .1))
+add-if2 c = omega (arith, Adding.slots-few _ _ _ _ _ (c .before .before .before .before .before .before .before .before .before .before .pre .0) (c .before .before .before .before .before .before .before .before .before .before .pre .1))
 
 same-length-2 : tie.Need-same-length-2
 same-length-2 c = search needs
 
 returns-2 : tie.Need-returns-2
-returns-2 c =
-    let a = c .before .before .before .before .before .before .before .before .before .before .before .args in
-    let q = c .before .before .before .before .before .before .before .before .before .before .before .pre in
-    let room = sym (c .before .before .before .before .before .before .before .find-room .ensures) ∙ c .before .before .before .before .before .room2 .given .1 in
-    Laid.refuses _ _ _ (Adding.add-slots (a .buffer .now) (a .n) _ _ _ (q .0) (q .1) _ room _ _ _ _ (c .if2 .taken))
+returns-2 c = Adding.add-slots _ _ _ _ _ (c .before .before .before .before .before .before .before .before .before .before .before .pre .0) (c .before .before .before .before .before .before .before .before .before .before .before .pre .1) _ (sym (c .before .before .before .before .before .before .before .find-room .ensures) ∙ c .before .before .before .before .before .room2 .given .1) _ _ _ (c .if2 .taken)
 
 put-block-requires : tie.Need-put-block-requires
-put-block-requires c κs =
-    let a = c .before .before .before .before .before .before .before .before .before .before .before .before .args in
-    let q = c .before .before .before .before .before .before .before .before .before .before .before .before .pre in
-    let room = sym (c .before .before .before .before .before .before .before .before .find-room .ensures) ∙ c .before .before .before .before .before .before .room2 .given .1 in
-    (Adding.image-short (a .buffer .now) (a .n) _ _ _ (q .0) (q .1), q .0, Adding.last-room (a .buffer .now) (a .n) _ _ _ (q .0) (q .1) _ room)
+put-block-requires c κs = Adding.last-room _ _ _ _ _ (c .before .before .before .before .before .before .before .before .before .before .before .before .pre .0) (c .before .before .before .before .before .before .before .before .before .before .before .before .pre .1) _ (sym (c .before .before .before .before .before .before .before .before .find-room .ensures) ∙ c .before .before .before .before .before .before .room2 .given .1)
 
 same-length-3 : tie.Need-same-length-3
 same-length-3 c = search needs
 
 returns-3 : tie.Need-returns-3
 returns-3 c =
-    let a = c .before .before .before .before .before .before .before .before .before .before .before .args in
-    let q = c .before .before .before .before .before .before .before .before .before .before .before .pre in
-    let room = sym (c .before .before .before .before .before .before .before .find-room .ensures) ∙ c .before .before .before .before .before .room .given .1 in
-    Laid.does-same _ _ _ _ _ (Adding.add-slot (a .buffer .now) (a .n) _ _ _ (q .0) (q .1) _ room _ _ _ _) (c .before .before .put-slot .ensures)
+    Adding.add-slot _ _ _ _ _ (c .before .before .before .before .before .before .before .before .before .before .before .pre .0) (c .before .before .before .before .before .before .before .before .before .before .before .pre .1) _ (sym (c .before .before .before .before .before .before .before .find-room .ensures) ∙ c .before .before .before .before .before .room .given .1) _ _ _ _
+    (c .before .before .put-slot .result) (c .before .before .put-slot .ensures)
 
 same-length-4 : tie.Need-same-length-4
 same-length-4 c = search needs
 
 returns-4 : tie.Need-returns-4
 returns-4 c =
-    let a = c .before .before .before .before .before .before .before .before .before .before .before .before .before .before .before .args in
-    let q = c .before .before .before .before .before .before .before .before .before .before .before .before .before .before .before .pre in
-    let room = sym (c .before .before .before .before .before .before .before .before .before .before .before .find-room .ensures) ∙ c .before .before .before .before .before .before .before .before .before .room2 .given .1 in
-    Laid.does-same _ _ _ _ _ (Adding.add-block (a .buffer .now) (a .n) _ _ _ (q .0) (q .1) _ room _ _ _ _ (c .before .before .before .before .before .before .if1 .left) (c .before .before .before .before .if2 .left)) (c .before .before .put-block .ensures)
+    Adding.add-block _ _ _ _ _ (c .before .before .before .before .before .before .before .before .before .before .before .before .before .before .before .pre .0) (c .before .before .before .before .before .before .before .before .before .before .before .before .before .before .before .pre .1) _ (sym (c .before .before .before .before .before .before .before .before .before .before .before .find-room .ensures) ∙ c .before .before .before .before .before .before .before .before .before .room2 .given .1) _ _ _
+    (c .before .before .before .before .before .before .if1 .left) (c .before .before .before .before .if2 .left) _ (c .before .before .put-block .result) (c .before .before .put-block .ensures)
 
 pub put-new-spec : {M : Type 1} → statement M
 put-new-spec =

@@ -1,23 +1,13 @@
 -- `journal::replace` meets its contract. Assumes nothing.
-use native.Mathlib.Omega.{arith}
-use mathlib.Core.Path.{sym, ap, subst}
-use lib.Seq.{length-take-le}
-use Rattle.journal.specs.Change.{Targets}
-use Rattle.journal.proofs.Laid
+use mathlib.Core.Path.{subst}
+use Rattle.journal.specs.Steps.Changes.{Targets}
+use Rattle.journal.proofs.Buffers
 use Rattle.journal.proofs.Adding
-use Rattle.journal.proofs.Calls
+use Rattle.journal.specs.Edits.{replaceOf}
+use Rattle.journal.specs.Buffers.{replaceIn}
 use borrow.Author.Needs.{needs}
 use Rattle.journal.proofs.replace.Statement.{statement}
 use Rattle.journal.proofs.replace.Tie as tie
-
-returns : tie.Need-returns
-returns c = Laid.refuses _ _ _ (Calls.replace-outside _ _ _ _ _ (c .if1 .taken))
-
-slice-reshare-prefix-meet : tie.Need-slice-reshare-prefix-meet
-slice-reshare-prefix-meet c = search needs
-
-slice-aggregate-meet : tie.Need-slice-aggregate-meet
-slice-aggregate-meet c = sym (length-take-le _ _ (omega arith))
 
 meet-requires : tie.Need-meet-requires
 meet-requires c κs = search needs
@@ -30,10 +20,8 @@ enum-known-met-2 c = search needs
 
 put-slot-requires : tie.Need-put-slot-requires
 put-slot-requires c κs =
-    let a = c .before .before .before .before .before .before .before .before .before .args in
-    let fits = c .before .before .before .before .before .before .if1 .left in
-    let t = subst (Targets _ _ _) (c .before .before .met2 .given .1) (c .before .before .before .before .meet .ensures) in
-    Adding.target-room (a .buffer .now) (a .n) fits (t .0) _ _ _ (t .2)
+    let t = subst (Targets _ _ _ _) (c .before .before .met2 .given .1) (c .before .before .before .before .meet .ensures) in
+    Adding.target-room _ _ _ _ _ (t .0) (t .1)
 
 enum-told : tie.Need-enum-told
 enum-told c = search needs
@@ -41,42 +29,38 @@ enum-told c = search needs
 same-length : tie.Need-same-length
 same-length c = search needs
 
-returns-2 : tie.Need-returns-2
-returns-2 c =
-    let t = subst (Targets _ _ _) (c .before .met .given .1) (c .before .before .before .meet .ensures) in
-    Laid.refuses _ _ _ (Calls.replace-stops _ _ _ _ _ (c .before .before .before .before .before .if1 .left) _ t)
+returns : tie.Need-returns
+unfolding replaceIn replaceOf
+returns c = Buffers.edit-stops _ _ _ _ _ (subst (Targets _ _ _ _) (c .before .met .given .1) (c .before .before .before .meet .ensures))
 
 same-length-2 : tie.Need-same-length-2
 same-length-2 c = search needs
 
-returns-3 : tie.Need-returns-3
-returns-3 c =
-    let t = subst (Targets _ _ _) (c .before .before .before .before .before .met2 .given .1) (c .before .before .before .before .before .before .before .meet .ensures) in
-    Laid.does-same _ _ _ _ _ (Calls.replace-there _ _ _ _ _ (c .before .before .before .before .before .before .before .before .before .if1 .left) (t .0) (t .1) _ (t .2)) (c .before .before .put-slot .ensures)
+returns-2 : tie.Need-returns-2
+returns-2 c =
+    let t = subst (Targets _ _ _ _) (c .before .before .before .before .before .met2 .given .1) (c .before .before .before .before .before .before .before .meet .ensures) in
+    Buffers.replace-there _ _ _ (t .0) _ _ (t .1) _ _ (c .before .before .put-slot .result) (c .before .before .put-slot .ensures)
 
 same-length-3 : tie.Need-same-length-3
 same-length-3 c = search needs
 
-returns-4 : tie.Need-returns-4
-returns-4 c =
-    let t = subst (Targets _ _ _) (c .enum-told .given .1) (c .before .before .meet .ensures) in
-    Laid.refuses _ _ _ (Calls.replace-absent _ _ _ _ _ (c .before .before .before .before .if1 .left) (ap (λ x. x .number) (t .0)) (t .1) (t .2))
+returns-3 : tie.Need-returns-3
+returns-3 c =
+    let t = subst (Targets _ _ _ _) (c .enum-told .given .1) (c .before .before .meet .ensures) in
+    Buffers.replace-absent _ _ _ (t .0) _ (t .1) _
 
 pub replace-spec : {M : Type 1} → statement M
 replace-spec =
     tie.close
     (tie.spec
-    returns
-    slice-reshare-prefix-meet
-    slice-aggregate-meet
     meet-requires
     enum-known-met
     enum-known-met-2
     put-slot-requires
     enum-told
     same-length
-    returns-2
+    returns
     same-length-2
-    returns-3
+    returns-2
     same-length-3
-    returns-4)
+    returns-3)

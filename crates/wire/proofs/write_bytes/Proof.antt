@@ -8,9 +8,6 @@ use Rattle.wire.specs.Numbers.{put}
 use Rattle.wire.proofs.Numbers
 use Rattle.wire.proofs.write_bytes.Statement.{statement}
 use Rattle.wire.proofs.write_bytes.Tie as tie
-use Rattle.wire.proofs.write_bytes.Reads as reads
-use Rattle.wire.proofs.write_bytes.Lts as lts
-use Rattle.wire.proofs.least.Reads as least-reads
 
 abbrev Inv-loop : tie.InvT-loop
 Inv-loop s₀ at vs count i₀ s i = (i ≤ count) × (s ≡ put s₀ at (take i vs))

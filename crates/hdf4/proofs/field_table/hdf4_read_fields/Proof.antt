@@ -2,7 +2,7 @@
 -- `read_head`, `count_of` and `answer_of`; then the table's borrow is opened, each turn calls the covered `field_at` and stores one record,
 -- and the borrow is closed. Assumes nothing.
 use mathlib.Core.Path.{_≡_, refl, sym, ap, subst, _∙_}
-use Prim.Native.Nat.{ℕ, zero, suc, _+_, _*_, _<_, _≤_, _^_}
+use Prim.Native.Nat.{ℕ, zero, suc, _+_, _*_, _<_, _^_}
 use native.Mathlib.Omega.{arith}
 use native.Mathlib.Nat.{add-zero, suc-add, add-suc, lt-suc-self, lt-irrefl}
 use native.Mathlib.Numerals.{add-one}
@@ -53,7 +53,7 @@ use denote.Signature.{plain}
 use Rattle.hdf4.specs.declared.field_table.Field.{Field}
 use Rattle.hdf4.specs.declared.field_table.Reading.{Reading}
 use Rattle.hdf4.specs.declared.vset_calls.VdataAnswer.{VdataAnswer}
-use Rattle.hdf4.specs.FieldTable.{Lies, Reads, fieldIn, filled}
+use Rattle.hdf4.specs.Steps.{Lies, ReadsFields, fieldIn, filled}
 use Rattle.hdf4.proofs.Tables.{length-filled, filled-whole}
 use Rattle.hdf4.proofs.field_table.Field as T
 use Rattle.hdf4.proofs.field_table.Field.Laws as T′
@@ -162,11 +162,11 @@ module _ {M : Type 1} (𝓤 : URA M) (H : Heap 𝓤) (A : Atoms 𝓤) (W : Given
       qed W (Tok ∷ Src ∷ []) ∵ nothing ! $ owned ! usize (Is usize) (uint-makes 𝓤 H A W w64) (length ys) _ (refl, room .0) $ fjoin ! $
       owned ! u16 (Is u16) (uint-makes 𝓤 H A W w16) ref _ (refl, ref-fits) $ fjoin ! $ move ! (2 ∷ 0 ∷ []) $ fjoin ! $ move ! (1 ∷ 0 ∷ []) $ join ! $ nothing ! $ move ! (1 ∷ 0 ∷ []) $ done !
 
-  said-head : (r : Reading) → ent 𝓤 (ensured 𝓤 H A p.ended (p.clauses 𝓤 H A mem run) (κ₀, tt) (hd, (ref, (length ys, tt))) tt r) (fact 𝓤 (Reads hs ref (length ys) r))
-  said-head r = exE 𝓤 _ (λ ws. snd∗ 𝓤 (sem 𝓤 H A (lasts p.ended (κ₀, tt) (hd, (ref, (length ys, tt))) ws)) (fact 𝓤 (Reads hs ref (length ys) r)))
+  said-head : (r : Reading) → ent 𝓤 (ensured 𝓤 H A p.ended (p.clauses 𝓤 H A mem run) (κ₀, tt) (hd, (ref, (length ys, tt))) tt r) (fact 𝓤 (ReadsFields hs ref (length ys) r))
+  said-head r = exE 𝓤 _ (λ ws. snd∗ 𝓤 (sem 𝓤 H A (lasts p.ended (κ₀, tt) (hd, (ref, (length ys, tt))) ws)) (fact 𝓤 (ReadsFields hs ref (length ys) r)))
 
   -- the head that was read, with the machine's value of it
-  module _ (hh : Reading) (read : Reads hs ref (length ys) hh) (u₀ : Val) (is₀ : Is DR hh (u₀ ∷ [])) where
+  module _ (hh : Reading) (read : ReadsFields hs ref (length ys) hh) (u₀ : Val) (is₀ : Is DR hh (u₀ ∷ [])) where
     abbrev n : ℕ
     n = hh .fields
 
@@ -181,7 +181,7 @@ module _ {M : Type 1} (𝓤 : URA M) (H : Heap 𝓤) (A : Atoms 𝓤) (W : Given
     exits u is =
         qed W (‵ (fobs γ (codedHoleys R .code (heres R (at n)))) ∷ ‵ (fbor κ₁ (Held R (length (at n)) b o γ)) ∷ ‵ (flft κ₁ q₁) ∷ Tok ∷ Src ∷ []) ∵
         suffices ! _ (ends-at 𝓤 H A f.ended stayed (f.clauses 𝓤 H A mem run) W (((κ₀, (κ₁, tt)), (q₀, (q₁, tt)), tt, args, vals), tt) u (hh .answer) (tt, (tt, (at n, tt))) (tt, (tt, (same-length n, tt)))) $
-        says ! (read .answers, filled-whole hs ref ys hh read) $
+        says ! (record { answers = read .answers; leaves = filled-whole hs ref ys hh read }) $
         move ! (3 ∷ []) $ split ! $ move ! (1 ∷ []) $ drop ! $ nothing ! $ move ! (4 ∷ 0 ∷ []) $ join ! $ move ! (1 ∷ 0 ∷ []) $ join ! $ frame ! $
         -- [obs; the borrow; what the image owns]
         fjoin ! $ pureI ! (at-slice R (x (at n)) (tv ∷ [])) (tt, (tt, tt)) (ap (λ (m : ℕ). sliceVal (b, o) m ∷ []) (sym (same-length n)), subst (Room R) (sym (same-length n)) room) $ fjoin ! $
@@ -421,7 +421,7 @@ module _ {M : Type 1} (𝓤 : URA M) (H : Heap 𝓤) (A : Atoms 𝓤) (W : Given
       -- [pre; src; the table's token; what the table owns; _12; …]
       calls-at ! (fmOf 𝓤 H (W .laws) 𝓣) (ReadHead 𝓤 H A mem run) known-head to-head (and-then ! (load ! (from ! (stop !)) (look ! 26 refl)) (and-then ! (load ! (from ! (stop !)) (look ! 24 refl)) (and-then ! (load ! (from ! (stop !)) (look ! 10 refl)) (no-more !)))) (λ u₀.
       use1 W (later (some (λ (r : Reading). (Tok ⊛ ‵ (DR .own r (u₀ ∷ []))) ⊛ raw (ensured 𝓤 H A p.ended (p.clauses 𝓤 H A mem run) (κ₀, tt) (hd, (ref, (length ys, tt))) tt r)))) (id⊢ 𝓤 _) $ await ! tt $ pick ! (λ r₀.
-      split ! $ move ! (1 ∷ []) $ use1 W (raw (fact 𝓤 (Reads hs ref (length ys) r₀))) (said-head r₀) $ heard ! (Reads hs ref (length ys) r₀) (λ read. split ! $ move ! (1 ∷ []) $
+      split ! $ move ! (1 ∷ []) $ use1 W (raw (fact 𝓤 (ReadsFields hs ref (length ys) r₀))) (said-head r₀) $ heard ! (ReadsFields hs ref (length ys) r₀) (λ read. split ! $ move ! (1 ∷ []) $
       facts ! DR (Is DR) (shows 𝓤 H A DR) r₀ (u₀ ∷ []) (λ is₀.
       land ! (from ! (stop !)) (init ! 20 refl (LL.lawful D.the-type D′.the-laws 𝓤 H A W .typed r₀ _ is₀ .0)) $
       by ! (counted r₀ read u₀ is₀ 𝓣 known known-count known-answer l₀ l₁ l₂ l₃ l₄ l₅ l₆ l₇ l₈ l₉ l₁₀ l₁₁ l₁₂))))))))))))))))))

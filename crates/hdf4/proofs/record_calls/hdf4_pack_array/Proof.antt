@@ -1,5 +1,5 @@
 -- `hdf4::record_calls::hdf4_pack_array` meets its contract. Assumes nothing.
-use mathlib.Core.Path.{_∙_}
+use Rattle.answer.proofs.Lent
 use borrow.Author.Needs.{needs}
 use Rattle.hdf4.proofs.record_calls.hdf4_pack_array.Statement.{statement}
 use Rattle.hdf4.proofs.record_calls.hdf4_pack_array.Tie as tie
@@ -14,7 +14,7 @@ same-length : tie.Need-same-length
 same-length c = search needs
 
 returns : tie.Need-returns
-returns c = record { answers = c .pack-answer .ensures ∙ c .before .before .before .pack .ensures .answers; leaves = c .before .before .before .pack .ensures .leaves }
+returns c = Lent.restated (c .pack-answer .ensures) (c .before .before .before .pack .ensures)
 
 pub hdf4-pack-array-spec : {M : Type 1} → statement M
 hdf4-pack-array-spec = tie.close (tie.spec pack-requires pack-answer-requires same-length returns)

@@ -1,6 +1,7 @@
 -- `hdf4::record_calls::hdf4_read_array` meets its contract. Assumes nothing.
-use mathlib.Core.Path.{sym, ap, _∙_}
+use mathlib.Core.Path.{sym, ap}
 use Rattle.records.specs.Arrays.{arrayNumbers}
+use Rattle.answer.proofs.Lent
 use borrow.Author.Needs.{needs}
 use Rattle.hdf4.proofs.record_calls.hdf4_read_array.Statement.{statement}
 use Rattle.hdf4.proofs.record_calls.hdf4_read_array.Tie as tie
@@ -21,7 +22,7 @@ same-length-2 : tie.Need-same-length-2
 same-length-2 c = search needs
 
 returns : tie.Need-returns
-returns c = (ap arrayNumbers (sym (c .before .answered .given .1)) ∙ c .before .before .before .before .before .before .before .read .ensures .0, c .before .before .before .before .before .before .before .read .ensures .1)
+returns c = let e = ap arrayNumbers (sym (c .before .answered .given .1)) in (Lent.restated e (c .before .before .before .before .before .before .before .read .ensures .0), Lent.restated e (c .before .before .before .before .before .before .before .read .ensures .1))
 
 same-length-3 : tie.Need-same-length-3
 same-length-3 c = search needs
@@ -30,7 +31,7 @@ same-length-4 : tie.Need-same-length-4
 same-length-4 c = search needs
 
 returns-2 : tie.Need-returns-2
-returns-2 c = (ap arrayNumbers (sym (c .before .answered2 .given .1)) ∙ c .before .before .before .before .before .before .before .read .ensures .0, c .before .before .before .before .before .before .before .read .ensures .1)
+returns-2 c = let e = ap arrayNumbers (sym (c .before .answered2 .given .1)) in (Lent.restated e (c .before .before .before .before .before .before .before .read .ensures .0), Lent.restated e (c .before .before .before .before .before .before .before .read .ensures .1))
 
 pub hdf4-read-array-spec : {M : Type 1} → statement M
 hdf4-read-array-spec =

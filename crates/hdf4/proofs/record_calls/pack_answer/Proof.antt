@@ -1,6 +1,6 @@
 -- `hdf4::record_calls::pack_answer` meets its contract. Assumes nothing.
 use mathlib.Core.Path.{sym, ap}
-use Rattle.records.specs.Packing.{packedNumbers}
+use Rattle.records.specs.Packings.{packedNumbers}
 use borrow.Author.Needs.{needs}
 use Rattle.hdf4.proofs.record_calls.pack_answer.Statement.{statement}
 use Rattle.hdf4.proofs.record_calls.pack_answer.Tie as tie

@@ -1,7 +1,5 @@
 -- `hdf4::vset_calls::in_bits` meets its contract. Assumes nothing.
 use native.Mathlib.Omega.{arith}
-use mir.Syntax.{w64}
-use mir.Val.{SFits}
 use Rattle.hdf4.proofs.Signs
 use Rattle.hdf4.proofs.vset_calls.in_bits.Statement.{statement}
 use Rattle.hdf4.proofs.vset_calls.in_bits.Tie as tie

@@ -4,7 +4,7 @@ use mir.Syntax.{w64}
 use mir.Val.{toZ, ofZ}
 use Rattle.vdata.specs.Patterns.{complement}
 use mathlib.Core.List.{[], _∷_}
-use Rattle.directory.specs.Answer.{grant}
+use Rattle.answer.specs.Answer.{grant}
 use Rattle.hdf4.specs.VsetAnswers.{HasBits}
 use borrow.Author.Needs.{needs}
 use Rattle.hdf4.proofs.vset_calls.value_answer.Statement.{statement}

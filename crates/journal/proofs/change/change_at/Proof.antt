@@ -1,6 +1,6 @@
 -- `journal::change::change_at` meets its contract. Assumes nothing.
 use borrow.Author.Tests.{eq-eqb, ne-eqb}
-use Rattle.journal.specs.Change.{pastFirst}
+use Rattle.journal.specs.Trailers.{pastFirst}
 use borrow.Author.Needs.{needs}
 use Rattle.journal.proofs.change.change_at.Statement.{statement}
 use Rattle.journal.proofs.change.change_at.Tie as tie

@@ -1,4 +1,6 @@
 -- `journal::change::read_trailer` meets its contract. Assumes nothing.
+use mathlib.Core.Path.{sym}
+use Rattle.journal.proofs.Trailers
 use borrow.Author.Needs.{needs}
 use Rattle.journal.proofs.change.read_trailer.Statement.{statement}
 use Rattle.journal.proofs.change.read_trailer.Tie as tie
@@ -44,7 +46,7 @@ read32-requires-7 c κs = search needs
 
 returns : tie.Need-returns
 returns c =
-    rw (c .before .before .before .before .before .before .read32 .ensures .is, c .before .before .before .before .before .read322 .ensures .is, c .before .before .before .before .read323 .ensures .is, c .before .before .before .read324 .ensures .is, c .before .before .read325 .ensures .is, c .before .read326 .ensures .is, c .read327 .ensures .is)
+    rw (c .before .before .before .before .before .before .read32 .ensures .is, c .before .before .before .before .before .read322 .ensures .is, c .before .before .before .before .read323 .ensures .is, c .before .before .before .read324 .ensures .is, c .before .before .read325 .ensures .is, c .before .read326 .ensures .is, c .read327 .ensures .is) (sym (Trailers.trailer-fields _ _))
 
 pub read-trailer-spec : {M : Type 1} → statement M
 read-trailer-spec =

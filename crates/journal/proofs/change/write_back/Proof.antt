@@ -1,5 +1,5 @@
 -- `journal::change::write_back` meets its contract. Assumes nothing.
-use Rattle.journal.proofs.Runs
+use Rattle.journal.proofs.Trailers
 use borrow.Author.Needs.{needs}
 use Rattle.journal.proofs.change.write_back.Statement.{statement}
 use Rattle.journal.proofs.change.write_back.Tie as tie
@@ -23,13 +23,13 @@ same-length : tie.Need-same-length
 same-length c = search needs
 
 returns : tie.Need-returns
-returns c = Runs.slot-back _ _ (c .before .before .before .before .before .before .before .before .if1 .taken) (c .before .before .before .before .before .before .before .before .before .before .before .before .write32 .ensures) (c .before .before .before .before .before .before .write322 .ensures) (c .before .before .write323 .ensures)
+returns c = Trailers.slot-back _ _ (c .before .before .before .before .before .before .before .before .before .before .before .before .write32 .ensures) (c .before .before .before .before .before .before .before .before .if1 .taken) (c .before .before .before .before .before .before .write322 .ensures) (c .before .before .write323 .ensures)
 
 same-length-2 : tie.Need-same-length-2
 same-length-2 c = search needs
 
 returns-2 : tie.Need-returns-2
-returns-2 c = Runs.link-back _ _ (c .if1 .left) (c .before .before .before .before .write32 .ensures)
+returns-2 c = Trailers.link-back _ _ (c .before .before .before .before .write32 .ensures) (c .if1 .left)
 
 pub write-back-spec : {M : Type 1} → statement M
 write-back-spec =

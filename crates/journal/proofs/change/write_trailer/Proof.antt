@@ -1,5 +1,5 @@
 -- `journal::change::write_trailer` meets its contract. Assumes nothing.
-use Rattle.journal.proofs.Runs
+use Rattle.journal.proofs.Trailers
 use borrow.Author.Needs.{needs}
 use Rattle.journal.proofs.change.write_trailer.Statement.{statement}
 use Rattle.journal.proofs.change.write_trailer.Tie as tie
@@ -53,7 +53,7 @@ same-length : tie.Need-same-length
 same-length c = search needs
 
 returns : tie.Need-returns
-returns c = Runs.trailer-run _ _ _ (c .before .before .before .before .before .before .before .before .before .before .before .before .before .before .before .before .before .before .before .before .before .before .before .before .before .before .before .before .before .before .write32 .ensures) (c .before .before .before .before .before .before .before .before .before .before .before .before .before .before .before .before .before .before .before .before .before .before .before .before .before .before .write322 .ensures) (c .before .before .before .before .before .before .before .before .before .before .before .before .before .before .before .before .before .before .before .before .before .before .write323 .ensures) (c .before .before .before .before .before .before .before .before .before .before .before .before .before .before .before .before .before .before .write324 .ensures) (c .before .before .before .before .before .before .before .before .before .before .before .before .before .before .write325 .ensures) (c .before .before .before .before .before .before .before .before .before .before .write326 .ensures) (c .before .before .before .before .before .before .write327 .ensures) (c .before .before .write328 .ensures)
+returns c = Trailers.trailer-run _ _ _ (c .before .before .before .before .before .before .before .before .before .before .before .before .before .before .before .before .before .before .before .before .before .before .before .before .before .before .before .before .before .before .write32 .ensures) (c .before .before .before .before .before .before .before .before .before .before .before .before .before .before .before .before .before .before .before .before .before .before .before .before .before .before .write322 .ensures) (c .before .before .before .before .before .before .before .before .before .before .before .before .before .before .before .before .before .before .before .before .before .before .write323 .ensures) (c .before .before .before .before .before .before .before .before .before .before .before .before .before .before .before .before .before .before .write324 .ensures) (c .before .before .before .before .before .before .before .before .before .before .before .before .before .before .write325 .ensures) (c .before .before .before .before .before .before .before .before .before .before .write326 .ensures) (c .before .before .before .before .before .before .write327 .ensures) (c .before .before .write328 .ensures)
 
 pub write-trailer-spec : {M : Type 1} → statement M
 write-trailer-spec =

@@ -5,7 +5,7 @@ use mathlib.Core.Path.{_≡_, refl, ap, _∙_}
 use lib.ListN.{length}
 use Rattle.wire.specs.Numbers.{put}
 use Rattle.wire.proofs.Numbers.{length-put}
-use Rattle.journal.specs.Edit.{freeSlots}
+use Rattle.journal.specs.Edits.{freeSlots}
 use Rattle.journal.proofs.Runs
 use Rattle.journal.proofs.write.write_free_slots.Statement.{statement}
 use Rattle.journal.proofs.write.write_free_slots.Tie as tie

@@ -1,5 +1,5 @@
 -- `records::array::parse` meets its contract. Assumes nothing.
-use Rattle.records.specs.Layout.{read}
+use Rattle.wire.specs.Layouts.{read}
 use borrow.Author.Needs.{needs}
 use Rattle.records.proofs.array.parse.Statement.{statement}
 use Rattle.records.proofs.array.parse.Tie as tie

@@ -1,25 +1,17 @@
 -- `records::number_type::read` meets its contract. Assumes nothing.
-use native.Mathlib.Omega.{arith}
-use mathlib.Core.Path.{refl, sym, _∙_}
-use Rattle.storage.proofs.Plain.{FoundPlain, plain-found}
+use mathlib.Core.Path.{sym, _∙_}
+use Rattle.directory.proofs.Opens
 use Rattle.records.specs.Limits.{number-type-tag}
-use Rattle.records.specs.NumberTypes.{numberTypeOf}
-use Rattle.records.proofs.Readings
-use Rattle.records.proofs.NumberTypes
+use Rattle.records.specs.NumberTypes.{numberTypeAt, numberTypeOf}
 use borrow.Author.Needs.{needs}
 use Rattle.records.proofs.number_type.read.Statement.{statement}
 use Rattle.records.proofs.number_type.read.Tie as tie
 
--- the element that was located
-found : (c : tie.After-located) → let a = c .before .before .before .before .args in
-    FoundPlain (a .image .now) number-type-tag (a .reference) (c .located .given .0 .0) (c .located .given .0 .1 .0) (c .located .given .0 .1 .1 .0)
-found c = plain-found _ _ _ _ _ _ (sym (c .before .before .find-plain .ensures) ∙ c .located .given .1)
+open-requires : tie.Need-open-requires
+open-requires c κs = search needs
 
-find-plain-requires : tie.Need-find-plain-requires
-find-plain-requires c κs = search needs
-
-enum-known-located : tie.Need-enum-known-located
-enum-known-located c = search needs
+enum-known-opened : tie.Need-enum-known-opened
+enum-known-opened c = search needs
 
 enum-told : tie.Need-enum-told
 enum-told c = search needs
@@ -29,49 +21,25 @@ refusal-of-requires c κs = search needs
 
 returns : tie.Need-returns
 unfolding numberTypeOf
-returns c = Readings.reads-refusal _ _ _ _ _ _ _ (c .before .before .before .find-plain .ensures) _ (c .before .enum-told .given .1) _ (c .refusal-of .ensures)
+returns c = rw (c .refusal-of .ensures) (sym (Opens.refused-is _ _ (c .before .before .before .«open» .ensures) 4 _ _ (c .before .enum-told .given .1)))
+
+read-in-requires : tie.Need-read-in-requires
+read-in-requires c κs = search needs
 
 returns-2 : tie.Need-returns-2
 unfolding numberTypeOf
 returns-2 c =
-    let f = found (c .before .before) in
-    Readings.reads-broken _ _ _ _ _ _ _ _ _ f 15 (sym (NumberTypes.other-bytes _ (λ q. c .if1 .taken (sym (Readings.part-long _ _ _ _ _ _ f) ∙ q)))) (λ z. omega arith)
-
-add-parse : tie.Need-add-parse
-add-parse c = omega (arith, found (c .before .before) .inside)
-
-sub-parse : tie.Need-sub-parse
-sub-parse c = search needs
-
-part-parse-start : tie.Need-part-parse-start
-part-parse-start c = search needs
-
-part-parse-end : tie.Need-part-parse-end
-part-parse-end c = found (c .before .before) .inside
-
-parse-requires : tie.Need-parse-requires
-parse-requires c κs = search needs
-
-returns-3 : tie.Need-returns-3
-unfolding numberTypeOf
-returns-3 c =
-    let f = found (c .before .before .before .before) in
-    let four = NumberTypes.four-bytes _ (Readings.part-long _ _ _ _ _ _ f ∙ c .before .before .if1 .left) in
-    rw (c .parse .ensures, Readings.part-content _ _ _ _ _ _ f) (sym (Readings.reads-passed _ _ _ _ _ _ _ _ _ f _ refl four))
+    let a = c .before .before .before .before .before .before .args in
+    c .read-in .ensures ∙ Opens.opened-answer 4 _ _ number-type-tag (a .reference) (Opens.accepted-with _ _ (c .before .before .before .before .«open» .ensures) _ (c .before .before .opened .given .1)) (numberTypeAt (a .image .now))
 
 pub read-spec : {M : Type 1} → statement M
 read-spec =
     tie.close
     (tie.spec
-    find-plain-requires
-    enum-known-located
+    open-requires
+    enum-known-opened
     enum-told
     refusal-of-requires
     returns
-    returns-2
-    add-parse
-    sub-parse
-    part-parse-start
-    part-parse-end
-    parse-requires
-    returns-3)
+    read-in-requires
+    returns-2)

@@ -1,21 +1,12 @@
 -- `storage::choose::numbers` meets its contract. Assumes nothing.
-use mathlib.Core.Path.{sym, _∙_}
-use Rattle.directory.proofs.Rules
-use Rattle.storage.specs.Steps.{Opens}
-use Rattle.storage.specs.Choose.{chooseOf}
+use mathlib.Core.Path.{refl, sym, ap, _∙_}
+use Rattle.directory.proofs.Opens
+use Rattle.storage.specs.Choices.{partIn, chooseOf}
 use Rattle.storage.proofs.Elements
-use Rattle.storage.proofs.Found
 use Rattle.storage.proofs.Choices
 use borrow.Author.Needs.{needs}
 use Rattle.storage.proofs.choose.numbers.Statement.{statement}
 use Rattle.storage.proofs.choose.numbers.Tie as tie
-
--- the current image opened, and then the fallback
-opens : (c : tie.After-known-told) → Opens (c .before .before .before .before .before .before .args .current .now) (c .before .opened .given .0 .0 .blocks)
-opens c = Found.opened-with _ _ _ _ (Rules.accepted-is _ _ (c .before .before .before .«open» .ensures) _ (c .before .opened .given .1))
-
-opens-fallback : (c : tie.After-known-told2) → Opens (c .before .before .before .before .before .before .before .before .before .before .args .fallback .now) (c .before .opened-fallback .given .0 .0 .blocks)
-opens-fallback c = Found.opened-with _ _ _ _ (Rules.accepted-is _ _ (c .before .before .before .open2 .ensures) _ (c .before .opened-fallback .given .1))
 
 open-requires : tie.Need-open-requires
 open-requires c κs = search needs
@@ -31,7 +22,7 @@ refusal-of-requires c κs = search needs
 
 returns : tie.Need-returns
 unfolding chooseOf
-returns c = rw (c .refusal-of .ensures) (sym (Rules.refused-is _ _ (c .before .before .before .«open» .ensures) 3 _ _ (c .before .enum-told .given .1)))
+returns c = rw (c .refusal-of .ensures) (sym (Opens.refused-is _ _ (c .before .before .before .«open» .ensures) 3 _ _ (c .before .enum-told .given .1)))
 
 open-requires-2 : tie.Need-open-requires-2
 open-requires-2 c κs = search needs
@@ -48,53 +39,42 @@ refusal-of-requires-2 c κs = search needs
 returns-2 : tie.Need-returns-2
 unfolding chooseOf
 returns-2 c =
-    let e = opens (c .before .before .before .before) in
-    rw (c .refusal-of2 .ensures)
-    (sym (Rules.opened-goes 3 _ _ (e .sound) ∙ Rules.refused-is _ _ (c .before .before .before .open2 .ensures) 3 _ _ (c .before .enum-told2 .given .1)))
+    let o = Opens.accepted-with _ _ (c .before .before .before .before .before .before .before .«open» .ensures) _ (c .before .before .before .before .before .opened .given .1) in
+    rw (c .refusal-of2 .ensures) (sym (Opens.opened-goes 3 _ _ (o .sound) ∙ Opens.refused-is _ _ (c .before .before .before .open2 .ensures) 3 _ _ (c .before .enum-told2 .given .1)))
+
+find-requires : tie.Need-find-requires
+find-requires c κs = search needs
+
+is-absent-requires : tie.Need-is-absent-requires
+is-absent-requires c κs = search needs
 
 locate-requires : tie.Need-locate-requires
 locate-requires c κs = search needs
 
-enum-known-offset : tie.Need-enum-known-offset
-enum-known-offset c = search needs
+in-fallback-requires : tie.Need-in-fallback-requires
+in-fallback-requires c κs = search needs
 
 returns-3 : tie.Need-returns-3
 returns-3 c =
-    let s = opens (c .before .before .before .before .before .before .before .before) in
-    let t = opens-fallback (c .before .before .before .before) in
-    sym (Choices.choose-current _ _ _ _ (s .sound) (t .sound) _ _ _ (Found.opened-located _ _ _ _ s _ (c .before .before .before .locate .ensures) _ (c .before .offset .given .1)))
+    let o = Opens.accepted-with _ _ (c .before .before .before .before .before .before .before .before .before .before .before .before .«open» .ensures) _ (c .before .before .before .before .before .before .before .before .before .before .opened .given .1) in
+    let other = Opens.accepted-with _ _ (c .before .before .before .before .before .before .before .before .open2 .ensures) _ (c .before .before .before .before .before .before .opened-fallback .given .1) in
+    let x = c .before .before .before .before .find .ensures ∙ Elements.element-opened _ _ _ _ o in
+    c .in-fallback .ensures ∙ ap (partIn 2) (c .before .locate .ensures ∙ Elements.located-opened _ _ _ _ other)
+    ∙ sym (Choices.choose-fallback _ _ _ _ (o .sound) (other .sound) _ (sym x) (sym (c .before .before .before .is-absent .ensures) ∙ c .before .before .if1 .taken) _ refl)
 
-enum-known-refusal : tie.Need-enum-known-refusal
-enum-known-refusal c = search needs
+plain-requires : tie.Need-plain-requires
+plain-requires c κs = search needs
+
+in-current-requires : tie.Need-in-current-requires
+in-current-requires c κs = search needs
 
 returns-4 : tie.Need-returns-4
 returns-4 c =
-    let s = opens (c .before .before .before .before .before .before .before .before .before .before) in
-    let t = opens-fallback (c .before .before .before .before .before .before) in
-    sym (Choices.choose-refused _ _ _ _ (s .sound) (t .sound) _ (Found.opened-located _ _ _ _ s _ (c .before .before .before .before .before .locate .ensures) _ (c .before .before .before .refusal .given .1)) (c .if1 .taken))
-
-locate-requires-2 : tie.Need-locate-requires-2
-locate-requires-2 c κs = search needs
-
-enum-known-offset-2 : tie.Need-enum-known-offset-2
-enum-known-offset-2 c = search needs
-
-enum-known-refusal-2 : tie.Need-enum-known-refusal-2
-enum-known-refusal-2 c = search needs
-
-returns-5 : tie.Need-returns-5
-returns-5 c =
-    let s = opens (c .before .before .before .before .before .before .before .before .before .before .before .before .before .before) in
-    let t = opens-fallback (c .before .before .before .before .before .before .before .before .before .before) in
-    let absent = Found.opened-located _ _ _ _ s _ (c .before .before .before .before .before .before .before .before .before .locate .ensures) _ (c .before .before .before .before .before .before .before .refusal .given .1) in
-    sym (Choices.choose-fallback _ _ _ _ (s .sound) (t .sound) _ absent (c .before .before .before .before .if1 .left) _ _ _ (Found.opened-located _ _ _ _ t _ (c .before .before .before .locate2 .ensures) _ (c .before .offset2 .given .1)))
-
-returns-6 : tie.Need-returns-6
-returns-6 c =
-    let s = opens (c .before .before .before .before .before .before .before .before .before .before .before .before .before .before) in
-    let t = opens-fallback (c .before .before .before .before .before .before .before .before .before .before) in
-    let absent = Found.opened-located _ _ _ _ s _ (c .before .before .before .before .before .before .before .before .before .locate .ensures) _ (c .before .before .before .before .before .before .before .refusal .given .1) in
-    sym (Choices.choose-neither _ _ _ _ (s .sound) (t .sound) _ absent (c .before .before .before .before .if1 .left) _ (Found.opened-located _ _ _ _ t _ (c .before .before .before .locate2 .ensures) _ (c .before .refusal2 .given .1)))
+    let o = Opens.accepted-with _ _ (c .before .before .before .before .before .before .before .before .before .before .before .before .«open» .ensures) _ (c .before .before .before .before .before .before .before .before .before .before .opened .given .1) in
+    let other = Opens.accepted-with _ _ (c .before .before .before .before .before .before .before .before .open2 .ensures) _ (c .before .before .before .before .before .before .opened-fallback .given .1) in
+    let x = c .before .before .before .before .find .ensures ∙ Elements.element-opened _ _ _ _ o in
+    c .in-current .ensures ∙ ap (partIn 1) (c .before .plain .ensures)
+    ∙ sym (Choices.choose-current _ _ _ _ (o .sound) (other .sound) _ (sym x) (sym (c .before .before .before .is-absent .ensures) ∙ c .before .before .if1 .left))
 
 pub numbers-spec : {M : Type 1} → statement M
 numbers-spec =
@@ -110,13 +90,11 @@ numbers-spec =
     enum-told-2
     refusal-of-requires-2
     returns-2
+    find-requires
+    is-absent-requires
     locate-requires
-    enum-known-offset
+    in-fallback-requires
     returns-3
-    enum-known-refusal
-    returns-4
-    locate-requires-2
-    enum-known-offset-2
-    enum-known-refusal-2
-    returns-5
-    returns-6)
+    plain-requires
+    in-current-requires
+    returns-4)

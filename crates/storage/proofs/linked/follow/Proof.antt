@@ -5,21 +5,21 @@ use mathlib.Core.Path.{_≡_, sym, ap, _∙_}
 use mathlib.Core.Bool.{false}
 use lib.Dec.{eqb}
 use lib.ListN.{length, take}
-use borrow.Author.Needs.{needs}
+use Rattle.answer.specs.Search.{any}
 use Rattle.wire.specs.Numbers.{be}
 use Rattle.wire.proofs.Numbers
-use Rattle.directory.specs.Search.{any}
-use Rattle.storage.specs.Linked.{linkedBytes, tableFault, blocksFrom}
+use Rattle.storage.specs.Tables.{linkedBytes, tableFault}
+use Rattle.storage.specs.Walks.{blocksFrom}
 use Rattle.storage.specs.Steps.{Took}
-use Rattle.storage.proofs.Elements
 use Rattle.storage.proofs.Tables
-use Rattle.storage.proofs.Loops
+use Rattle.storage.proofs.Steps
+use borrow.Author.Needs.{needs}
 use Rattle.storage.proofs.linked.follow.Statement.{statement}
 use Rattle.storage.proofs.linked.follow.Tie as tie
 
 abbrev Inv-loop : tie.InvT-loop
 Inv-loop image blocks d out₀ tables₀ count₀ reference₀ index₀ left₀ out tables count reference index left =
-    Loops.Following image d out₀ tables count reference index left out
+    Steps.Following image d out₀ tables count reference index left out
 
 abbrev μ-loop : tie.MeasureT-loop
 μ-loop image blocks d out₀ tables₀ count₀ reference₀ index₀ left₀ out tables count reference index left =
@@ -36,27 +36,30 @@ more c = omega (arith, c .before .before .loop .inv .few, c .if1 .left)
 fresh : (c : tie.Else2 Inv-loop μ-loop) → let l = c .before .before .before .before .before .loop in any (eqb (l .reference)) (take (l .count) (l .tables)) ≡ false
 fresh c = sym (c .before .seen .ensures) ∙ c .if2 .left
 
--- where it stands
-there : (c : tie.After-known-told Inv-loop μ-loop) → Tables.There (c .before .before .before .before .before .before .before .before .before .before .before .before .args .image .now) (c .before .before .before .before .before .before .before .before .before .loop .reference) (c .before .offset .given .0 .0) (c .before .offset .given .0 .1 .0)
-there c = Tables.linked-there _ _ _ _ (c .before .before .before .before .before .before .before .before .before .before .before .before .pre .0 .sound) (sym (c .before .before .before .find-linked .ensures) ∙ c .before .offset .given .1)
+-- where it stands, and its bytes
+there : (c : tie.After-known-told Inv-loop μ-loop) → Tables.There (c .before .before .before .before .before .before .before .before .before .before .before .before .args .image .now) (c .before .before .before .before .before .before .before .before .before .loop .reference) (c .before .offset .given .0 .1 .0) (c .before .offset .given .0 .1 .1 .0)
+there c = Tables.linked-there _ _ _ _ _ (c .before .before .before .before .before .before .before .before .before .before .before .before .pre .0 .sound) _ (c .before .before .before .find-linked .ensures) (c .before .offset .given .1)
+
+bytes : (c : tie.After-part Inv-loop μ-loop) → c .part .result .now ≡ linkedBytes (c .before .before .before .before .before .before .before .before .before .before .before .before .before .args .image .now) (c .before .before .before .before .before .before .before .before .before .before .loop .reference)
+bytes c = c .part .ensures ∙ sym (there (c .before) .bytes)
 
 -- it breaks no rule
-good : (c : tie.Else3 Inv-loop μ-loop) → let l = c .before .before .before .before .before .before .before .before .before .before .before .loop in tableFault (c .before .before .before .before .before .before .before .before .before .before .before .before .before .before .args .image .now) (c .before .before .before .before .before .before .before .before .before .before .before .before .before .before .args .d) (take (l .count) (l .tables)) (l .reference) ≡ 0
-good c = Tables.table-none _ _ _ _ (fresh (c .before .before .before .before .before .before)) _ _ (there (c .before .before)) (c .if3 .left)
+good : (c : tie.Else3 Inv-loop μ-loop) → let l = c .before .before .before .before .before .before .before .before .before .before .before .before .loop in tableFault (c .before .before .before .before .before .before .before .before .before .before .before .before .before .before .before .args .image .now) (c .before .before .before .before .before .before .before .before .before .before .before .before .before .before .before .args .d) (take (l .count) (l .tables)) (l .reference) ≡ 0
+good c = Tables.table-none _ _ _ _ (fresh (c .before .before .before .before .before .before .before)) _ _ (there (c .before .before .before)) (rw (ap length (bytes (c .before .before)) ∙ there (c .before .before .before) .holds) at (c .if3 .left))
 
 -- what its blocks came to
 took : (c : tie.After-take-blocks Inv-loop μ-loop) → let l = c .before .before .before .before .before .before .before .before .before .before .before .before .before .before .loop in let a = c .before .before .before .before .before .before .before .before .before .before .before .before .before .before .before .before .before .args in
     Took (blocksFrom (a .image .now) (a .d) (linkedBytes (a .image .now) (l .reference)) (a .d .entries) 0 (l .index) (l .left)) (a .d .length - l .left) (l .out) (c .take-blocks .last .1 .1 .1 .1 .1 .1 .0) (c .take-blocks .result)
-took c = rw (there (c .before .before .before .before .before) .bytes ∙ sym (Elements.part-between _ _ _)) (c .take-blocks .ensures)
+took c = rw (bytes (c .before .before .before .before)) at (c .take-blocks .ensures)
 
 loop-holds : tie.Need-loop-holds Inv-loop μ-loop
-loop-holds c = Loops.following-start _ _ _ _ (search needs)
+loop-holds c = Steps.following-start _ _ _ _ (search needs)
 
 same-length : tie.Need-same-length Inv-loop μ-loop
 same-length c = c .before .before .loop .inv .long
 
 returns : tie.Need-returns Inv-loop μ-loop
-returns c = Loops.followed-many _ _ _ _ _ _ _ _ _ (c .before .before .loop .inv) (missed (c .before)) (c .if1 .taken)
+returns c = Steps.followed-many _ _ _ _ _ _ _ _ _ (c .before .before .loop .inv) (missed (c .before)) (c .if1 .taken)
 
 seen-requires : tie.Need-seen-requires Inv-loop μ-loop
 seen-requires c κs = (c .before .before .before .loop .inv .kept, c .before .before .before .loop .inv .few)
@@ -65,7 +68,7 @@ same-length-2 : tie.Need-same-length-2 Inv-loop μ-loop
 same-length-2 c = c .before .before .before .before .before .loop .inv .long
 
 returns-2 : tie.Need-returns-2 Inv-loop μ-loop
-returns-2 c = Loops.followed-fault _ _ _ _ _ _ _ _ _ (c .before .before .before .before .before .loop .inv) (missed (c .before .before .before .before)) (more (c .before .before .before)) (Tables.table-twice _ _ _ _ (sym (c .before .seen .ensures) ∙ c .if2 .taken))
+returns-2 c = Steps.followed-fault _ _ _ _ _ _ _ _ _ (c .before .before .before .before .before .loop .inv) (missed (c .before .before .before .before)) (more (c .before .before .before)) (Tables.table-twice _ _ _ _ (sym (c .before .seen .ensures) ∙ c .if2 .taken))
 
 find-linked-requires : tie.Need-find-linked-requires Inv-loop μ-loop
 find-linked-requires c κs = c .before .before .before .before .before .before .before .before .pre .0
@@ -80,33 +83,24 @@ same-length-3 : tie.Need-same-length-3 Inv-loop μ-loop
 same-length-3 c = c .before .before .before .before .before .before .before .before .loop .inv .long
 
 returns-3 : tie.Need-returns-3 Inv-loop μ-loop
-returns-3 c = Loops.followed-fault _ _ _ _ _ _ _ _ _ (c .before .before .before .before .before .before .before .before .loop .inv) (missed (c .before .before .before .before .before .before .before)) (more (c .before .before .before .before .before .before))
-    (Tables.table-absent _ _ _ _ (fresh (c .before .before .before)) (Tables.linked-nothing _ _ (sym (c .before .before .find-linked .ensures) ∙ c .enum-told .given .1)))
+returns-3 c = Steps.followed-fault _ _ _ _ _ _ _ _ _ (c .before .before .before .before .before .before .before .before .loop .inv) (missed (c .before .before .before .before .before .before .before)) (more (c .before .before .before .before .before .before))
+    (Tables.table-absent _ _ _ _ (fresh (c .before .before .before)) (Tables.linked-nothing _ _ _ (c .before .before .find-linked .ensures) _ (c .enum-told .given .1)))
+
+part-requires : tie.Need-part-requires Inv-loop μ-loop
+part-requires c κs = search needs
 
 mul-if3 : tie.Need-mul-if3 Inv-loop μ-loop
-mul-if3 c = omega (arith, c .before .before .before .before .before .before .before .before .before .before .before .before .before .pre .1 .entries)
+mul-if3 c = omega (arith, c .before .before .before .before .before .before .before .before .before .before .before .before .before .before .pre .1 .entries)
 
 add-if3 : tie.Need-add-if3 Inv-loop μ-loop
-add-if3 c = omega (arith, c .before .before .before .before .before .before .before .before .before .before .before .before .before .pre .1 .entries)
+add-if3 c = omega (arith, c .before .before .before .before .before .before .before .before .before .before .before .before .before .before .pre .1 .entries)
 
 same-length-4 : tie.Need-same-length-4 Inv-loop μ-loop
-same-length-4 c = c .before .before .before .before .before .before .before .before .before .before .before .loop .inv .long
+same-length-4 c = c .before .before .before .before .before .before .before .before .before .before .before .before .loop .inv .long
 
 returns-4 : tie.Need-returns-4 Inv-loop μ-loop
-returns-4 c = Loops.followed-fault _ _ _ _ _ _ _ _ _ (c .before .before .before .before .before .before .before .before .before .before .before .loop .inv) (missed (c .before .before .before .before .before .before .before .before .before .before)) (more (c .before .before .before .before .before .before .before .before .before))
-    (Tables.table-short _ _ _ _ (fresh (c .before .before .before .before .before .before)) _ _ (there (c .before .before)) (c .if3 .taken))
-
-add-table : tie.Need-add-table Inv-loop μ-loop
-add-table c = omega (arith, there (c .before .before) .inside)
-
-sub-table : tie.Need-sub-table Inv-loop μ-loop
-sub-table c = search needs
-
-part-table-start : tie.Need-part-table-start Inv-loop μ-loop
-part-table-start c = search needs
-
-part-table-end : tie.Need-part-table-end Inv-loop μ-loop
-part-table-end c = there (c .before .before) .inside
+returns-4 c = Steps.followed-fault _ _ _ _ _ _ _ _ _ (c .before .before .before .before .before .before .before .before .before .before .before .before .loop .inv) (missed (c .before .before .before .before .before .before .before .before .before .before .before)) (more (c .before .before .before .before .before .before .before .before .before .before))
+    (Tables.table-short _ _ _ _ (fresh (c .before .before .before .before .before .before .before)) _ _ (there (c .before .before .before)) (rw (ap length (bytes (c .before .before)) ∙ there (c .before .before .before) .holds) at (c .if3 .taken)))
 
 take-blocks-requires : tie.Need-take-blocks-requires Inv-loop μ-loop
 take-blocks-requires c κs = (c .before .before .before .before .before .before .before .before .before .before .before .before .before .before .before .before .pre .0, c .before .before .before .before .before .before .before .before .before .before .before .before .before .before .before .before .pre .1, record { low = omega (arith, c .before .before .before .before .before .before .before .before .before .before .before .before .before .loop .inv .low, c .before .before .before .before .before .before .before .before .before .before .before .before .before .loop .inv .few); less = c .before .before .before .before .before .before .before .before .before .before .before .before .before .loop .inv .less })
@@ -115,7 +109,7 @@ same-length-5 : tie.Need-same-length-5 Inv-loop μ-loop
 same-length-5 c = ap length (took (c .before .before .before .before) .leaves) ∙ Numbers.length-put _ _ _ ∙ c .before .before .before .before .before .before .before .before .before .before .before .before .before .before .before .before .before .before .loop .inv .long
 
 returns-5 : tie.Need-returns-5 Inv-loop μ-loop
-returns-5 c = Loops.followed-broken _ _ _ _ _ _ _ _ _ (c .before .before .before .before .before .before .before .before .before .before .before .before .before .before .before .before .before .before .loop .inv) (missed (c .before .before .before .before .before .before .before .before .before .before .before .before .before .before .before .before .before)) (more (c .before .before .before .before .before .before .before .before .before .before .before .before .before .before .before .before)) (good (c .before .before .before .before .before .before .before)) _ _ _ (took (c .before .before .before .before)) (c .if4 .taken)
+returns-5 c = Steps.followed-broken _ _ _ _ _ _ _ _ _ (c .before .before .before .before .before .before .before .before .before .before .before .before .before .before .before .before .before .before .loop .inv) (missed (c .before .before .before .before .before .before .before .before .before .before .before .before .before .before .before .before .before)) (more (c .before .before .before .before .before .before .before .before .before .before .before .before .before .before .before .before)) (good (c .before .before .before .before .before .before)) _ _ _ (took (c .before .before .before .before)) (c .if4 .taken)
 
 mul-tables : tie.Need-mul-tables Inv-loop μ-loop
 mul-tables c = omega arith
@@ -140,14 +134,14 @@ loop-less c = omega (arith, more (c .before .before .before .before .before .bef
 
 loop-again : tie.Need-loop-again Inv-loop μ-loop
 loop-again c =
-    rw (c .before .read16 .ensures .is ∙ ap (λ t. be 2 t 0) (Elements.part-between _ _ _ ∙ sym (there (c .before .before .before .before .before .before .before .before .before .before .before) .bytes)))
-    (Loops.following-next _ _ _ _ _ _ _ _ _ (c .before .before .before .before .before .before .before .before .before .before .before .before .before .before .before .before .before .before .before .before .loop .inv) (missed (c .before .before .before .before .before .before .before .before .before .before .before .before .before .before .before .before .before .before .before)) (more (c .before .before .before .before .before .before .before .before .before .before .before .before .before .before .before .before .before .before)) (good (c .before .before .before .before .before .before .before .before .before)) _ _ _ (took (c .before .before .before .before .before .before)) (c .before .before .if4 .left) (c .before .before .before .before .before .before .before .before .before .before .before .before .before .before .before .before .before .before .before .before .before .before .before .pre .1 .entries))
+    rw (c .before .read16 .ensures .is ∙ ap (λ t. be 2 t 0) (bytes (c .before .before .before .before .before .before .before .before .before .before)))
+    (Steps.following-next _ _ _ _ _ _ _ _ _ (c .before .before .before .before .before .before .before .before .before .before .before .before .before .before .before .before .before .before .before .before .loop .inv) (missed (c .before .before .before .before .before .before .before .before .before .before .before .before .before .before .before .before .before .before .before)) (more (c .before .before .before .before .before .before .before .before .before .before .before .before .before .before .before .before .before .before)) (good (c .before .before .before .before .before .before .before .before)) _ _ _ (took (c .before .before .before .before .before .before)) (c .before .before .if4 .left) (c .before .before .before .before .before .before .before .before .before .before .before .before .before .before .before .before .before .before .before .before .before .before .before .pre .1 .entries))
 
 same-length-6 : tie.Need-same-length-6 Inv-loop μ-loop
 same-length-6 c = c .before .loop .inv .long
 
 returns-6 : tie.Need-returns-6 Inv-loop μ-loop
-returns-6 c = let z : c .before .loop .left ≡ 0 = omega arith in Loops.followed-all _ _ _ _ _ _ _ _ _ (c .before .loop .inv) z
+returns-6 c = let z : c .before .loop .left ≡ 0 = omega arith in Steps.followed-all _ _ _ _ _ _ _ _ _ (c .before .loop .inv) z
 
 pub follow-spec : {M : Type 1} → statement M
 follow-spec =
@@ -166,14 +160,11 @@ follow-spec =
     enum-told
     same-length-3
     returns-3
+    part-requires
     mul-if3
     add-if3
     same-length-4
     returns-4
-    add-table
-    sub-table
-    part-table-start
-    part-table-end
     take-blocks-requires
     same-length-5
     returns-5

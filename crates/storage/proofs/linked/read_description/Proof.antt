@@ -1,5 +1,5 @@
 -- `storage::linked::read_description` meets its contract. Assumes nothing.
-use Rattle.storage.specs.Linked.{descriptionOf}
+use Rattle.storage.specs.Descriptions.{descriptionOf}
 use borrow.Author.Needs.{needs}
 use Rattle.storage.proofs.linked.read_description.Statement.{statement}
 use Rattle.storage.proofs.linked.read_description.Tie as tie

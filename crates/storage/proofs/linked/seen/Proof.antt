@@ -5,8 +5,8 @@ use mathlib.Core.Path.{_≡_, refl, sym, _∙_}
 use lib.Dec.{eqb}
 use lib.ListN.{take, drop}
 use borrow.Author.Tests.{eq-eqb, ne-eqb}
-use Rattle.directory.specs.Search.{any}
-use Rattle.directory.proofs.Search
+use Rattle.answer.specs.Search.{any}
+use Rattle.answer.proofs.Search
 use Rattle.storage.proofs.linked.seen.Statement.{statement}
 use Rattle.storage.proofs.linked.seen.Tie as tie
 

@@ -2,35 +2,33 @@
 -- Assumes nothing.
 use Prim.Native.Nat.{_-_}
 use native.Mathlib.Omega.{arith}
-use mathlib.Core.Path.{sym, _∙_}
-use borrow.Author.Needs.{needs}
-use Rattle.storage.specs.Linked.{blockRef}
-use Rattle.storage.proofs.Elements
+use Rattle.storage.specs.Tables.{blockRef}
 use Rattle.storage.proofs.Tables
 use Rattle.storage.proofs.Walks
-use Rattle.storage.proofs.Loops
+use Rattle.storage.proofs.Steps
+use borrow.Author.Needs.{needs}
 use Rattle.storage.proofs.linked.take_blocks.Statement.{statement}
 use Rattle.storage.proofs.linked.take_blocks.Tie as tie
 
 abbrev Inv-loop : tie.InvT-loop
-Inv-loop image blocks d table first missing out₀ left₀ entry₀ out left entry = Loops.Taking image d table first missing out₀ entry left out
+Inv-loop image blocks d table first missing out₀ left₀ entry₀ out left entry = Steps.Taking image d table first missing out₀ entry left out
 
 abbrev μ-loop : tie.MeasureT-loop
 μ-loop image blocks d table first missing out₀ left₀ entry₀ out left entry = d .entries - entry
 
 -- the block that the entry names
 there : (c : tie.After-known-told Inv-loop μ-loop) → let l = c .before .before .before .before .before .before .before .before .before .loop in let a = c .before .before .before .before .before .before .before .before .before .before .before .before .before .args in
-    Tables.There (a .image .now) (blockRef (a .table .now) (l .entry)) (c .before .offset .given .0 .0) (c .before .offset .given .0 .1 .0)
-there c = Tables.linked-there _ _ _ _ (c .before .before .before .before .before .before .before .before .before .before .before .before .before .pre .0 .sound) (rw (c .before .before .before .before .read16 .ensures .is) at (sym (c .before .before .before .find-linked .ensures) ∙ c .before .offset .given .1))
+    Tables.There (a .image .now) (blockRef (a .table .now) (l .entry)) (c .before .offset .given .0 .1 .0) (c .before .offset .given .0 .1 .1 .0)
+there c = Tables.linked-there _ _ _ _ _ (c .before .before .before .before .before .before .before .before .before .before .before .before .before .pre .0 .sound) _ (rw (c .before .before .before .before .read16 .ensures .is) at (c .before .before .before .find-linked .ensures)) (c .before .offset .given .1)
 
 loop-holds : tie.Need-loop-holds Inv-loop μ-loop
-loop-holds c = Loops.taking-start _ _ _ _ _ _ (c .before .before .before .pre .2 .less)
+loop-holds c = Steps.taking-start _ _ _ _ _ _ (c .before .before .before .pre .2 .less)
 
 same-length : tie.Need-same-length Inv-loop μ-loop
 same-length c = c .before .before .before .loop .inv .long
 
 returns : tie.Need-returns Inv-loop μ-loop
-returns c = Loops.taken-enough _ _ _ _ _ _ _ _ _ (c .before .before .before .loop .inv) (c .if2 .taken)
+returns c = Steps.taken-enough _ _ _ _ _ _ _ _ _ (c .before .before .before .loop .inv) (c .if2 .taken)
 
 add-share-of : tie.Need-add-share-of Inv-loop μ-loop
 add-share-of c = omega (arith, c .before .before .before .before .before .before .before .pre .2 .low, c .before .before .before .before .before .before .before .pre .1 .entries, c .before .if1 .taken)
@@ -63,30 +61,21 @@ same-length-2 : tie.Need-same-length-2 Inv-loop μ-loop
 same-length-2 c = c .before .before .before .before .before .before .before .before .loop .inv .long
 
 returns-2 : tie.Need-returns-2 Inv-loop μ-loop
-returns-2 c = Loops.taken-fault _ _ _ _ _ _ _ _ _ (c .before .before .before .before .before .before .before .before .loop .inv) (c .before .before .before .before .before .before .if1 .taken) (c .before .before .before .before .before .if2 .left)
-    (Tables.block-absent _ _ _ (Tables.linked-nothing _ _ (rw (c .before .before .before .read16 .ensures .is) at (sym (c .before .before .find-linked .ensures) ∙ c .enum-told .given .1))))
+returns-2 c = Steps.taken-fault _ _ _ _ _ _ _ _ _ (c .before .before .before .before .before .before .before .before .loop .inv) (c .before .before .before .before .before .before .if1 .taken) (c .before .before .before .before .before .if2 .left)
+    (Tables.block-absent _ _ _ (Tables.linked-nothing _ _ _ (rw (c .before .before .before .read16 .ensures .is) at (c .before .before .find-linked .ensures)) _ (c .enum-told .given .1)))
 
 same-length-3 : tie.Need-same-length-3 Inv-loop μ-loop
 same-length-3 c = c .before .before .before .before .before .before .before .before .before .before .loop .inv .long
 
 returns-3 : tie.Need-returns-3 Inv-loop μ-loop
-returns-3 c = Loops.taken-fault _ _ _ _ _ _ _ _ _ (c .before .before .before .before .before .before .before .before .before .before .loop .inv) (c .before .before .before .before .before .before .before .before .if1 .taken) (c .before .before .before .before .before .before .before .if2 .left)
+returns-3 c = Steps.taken-fault _ _ _ _ _ _ _ _ _ (c .before .before .before .before .before .before .before .before .before .before .loop .inv) (c .before .before .before .before .before .before .before .before .if1 .taken) (c .before .before .before .before .before .before .before .if2 .left)
     (Tables.block-short _ _ _ _ _ (there (c .before)) (rw (c .before .before .before .before .before .before .share-of .ensures) at (c .if3 .taken)))
 
 sub-write-bytes : tie.Need-sub-write-bytes Inv-loop μ-loop
 sub-write-bytes c = omega (arith, c .before .before .before .before .before .before .before .before .before .before .before .before .loop .inv .less)
 
-add-write-bytes : tie.Need-add-write-bytes Inv-loop μ-loop
-add-write-bytes c = omega (arith, there (c .before .before .before) .inside, c .before .before .if3 .left)
-
-sub-write-bytes-2 : tie.Need-sub-write-bytes-2 Inv-loop μ-loop
-sub-write-bytes-2 c = search needs
-
-part-write-bytes-start : tie.Need-part-write-bytes-start Inv-loop μ-loop
-part-write-bytes-start c = search needs
-
-part-write-bytes-end : tie.Need-part-write-bytes-end Inv-loop μ-loop
-part-write-bytes-end c = omega (arith, there (c .before .before .before) .inside, c .before .before .if3 .left)
+part-requires : tie.Need-part-requires Inv-loop μ-loop
+part-requires c κs = search needs
 
 write-bytes-requires : tie.Need-write-bytes-requires Inv-loop μ-loop
 write-bytes-requires c κs = search needs
@@ -102,14 +91,14 @@ loop-less c = omega (arith, c .before .before .before .before .before .before .b
 
 loop-again : tie.Need-loop-again Inv-loop μ-loop
 loop-again c =
-    rw (c .before .before .write-bytes .ensures, Elements.part-between, c .before .before .before .before .before .before .before .before .before .before .before .before .share-of .ensures)
-    (Loops.taking-next _ _ _ _ _ _ _ _ _ (c .before .before .before .before .before .before .before .before .before .before .before .before .before .before .before .before .loop .inv) (c .before .before .before .before .before .before .before .before .before .before .before .before .before .before .if1 .taken) (c .before .before .before .before .before .before .before .before .before .before .before .before .before .if2 .left) _ _ (there (c .before .before .before .before .before .before .before)) (rw (c .before .before .before .before .before .before .before .before .before .before .before .before .share-of .ensures) at (c .before .before .before .before .before .before .if3 .left)))
+    rw (c .before .before .write-bytes .ensures, c .before .before .before .part .ensures, c .before .before .before .before .before .before .before .before .before .before .before .before .share-of .ensures)
+    (Steps.taking-next _ _ _ _ _ _ _ _ _ (c .before .before .before .before .before .before .before .before .before .before .before .before .before .before .before .before .loop .inv) (c .before .before .before .before .before .before .before .before .before .before .before .before .before .before .if1 .taken) (c .before .before .before .before .before .before .before .before .before .before .before .before .before .if2 .left) _ _ (there (c .before .before .before .before .before .before .before)) (rw (c .before .before .before .before .before .before .before .before .before .before .before .before .share-of .ensures) at (c .before .before .before .before .before .before .if3 .left)))
 
 same-length-4 : tie.Need-same-length-4 Inv-loop μ-loop
 same-length-4 c = c .before .before .loop .inv .long
 
 returns-4 : tie.Need-returns-4 Inv-loop μ-loop
-returns-4 c = Loops.taken-all _ _ _ _ _ _ _ _ _ (c .before .before .loop .inv) (c .if1 .left)
+returns-4 c = Steps.taken-all _ _ _ _ _ _ _ _ _ (c .before .before .loop .inv) (c .if1 .left)
 
 pub take-blocks-spec : {M : Type 1} → statement M
 take-blocks-spec =
@@ -134,10 +123,7 @@ take-blocks-spec =
     same-length-3
     returns-3
     sub-write-bytes
-    add-write-bytes
-    sub-write-bytes-2
-    part-write-bytes-start
-    part-write-bytes-end
+    part-requires
     write-bytes-requires
     sub-left
     add-entry

@@ -1,8 +1,7 @@
 -- `storage::view::part` meets its contract. Assumes nothing.
 use mathlib.Core.Path.{sym, ap, _∙_}
-use native.Mathlib.Omega.{arith}
-use Rattle.storage.specs.View.{viewedNumbers}
-use Rattle.storage.proofs.Elements
+use Rattle.wire.specs.Numbers.{part}
+use Rattle.storage.specs.Views.{viewedNumbers}
 use Rattle.storage.proofs.Views
 use borrow.Author.Needs.{needs}
 use Rattle.storage.proofs.view.part.Statement.{statement}
@@ -14,31 +13,21 @@ numbers-requires c κs = search needs
 enum-known-offset : tie.Need-enum-known-offset
 enum-known-offset c = search needs
 
+part-requires : tie.Need-part-requires
+part-requires c κs = search needs
+
 enum-told : tie.Need-enum-told
 enum-told c = search needs
 
-slice-aggregate-result : tie.Need-slice-aggregate-result
-slice-aggregate-result c = search needs
+part-requires-2 : tie.Need-part-requires-2
+part-requires-2 c κs = search needs
 
 returns : tie.Need-returns
-returns c = sym (Views.bytes-refused _ _ _ _ (sym (c .before .before .before .numbers .ensures) ∙ ap viewedNumbers (c .before .enum-told .given .1)))
-
-add-result : tie.Need-add-result
-add-result c = omega (arith, Views.view-inside _ _ _ _ _ (sym (c .before .before .before .numbers .ensures) ∙ ap viewedNumbers (c .before .offset .given .1)))
-
-sub-result : tie.Need-sub-result
-sub-result c = search needs
-
-part-result-start : tie.Need-part-result-start
-part-result-start c = search needs
-
-part-result-end : tie.Need-part-result-end
-part-result-end c = Views.view-inside _ _ _ _ _ (sym (c .before .before .before .numbers .ensures) ∙ ap viewedNumbers (c .before .offset .given .1))
+returns c = c .part .ensures ∙ sym (Views.bytes-granted _ _ _ _ (sym (c .before .before .before .before .numbers .ensures) ∙ ap viewedNumbers (c .before .before .offset .given .1)))
 
 returns-2 : tie.Need-returns-2
-returns-2 c =
-    Elements.part-between _ _ _
-    ∙ sym (Views.bytes-granted _ _ _ _ (sym (c .before .before .before .before .numbers .ensures) ∙ ap viewedNumbers (c .before .before .offset .given .1)))
+unfolding part
+returns-2 c = c .part2 .ensures ∙ sym (Views.bytes-refused _ _ _ _ (sym (c .before .before .before .numbers .ensures) ∙ ap viewedNumbers (c .before .enum-told .given .1)))
 
 pub part-spec : {M : Type 1} → statement M
 part-spec =
@@ -46,11 +35,8 @@ part-spec =
     (tie.spec
     numbers-requires
     enum-known-offset
+    part-requires
     enum-told
-    slice-aggregate-result
+    part-requires-2
     returns
-    add-result
-    sub-result
-    part-result-start
-    part-result-end
     returns-2)

@@ -5,7 +5,7 @@ use mathlib.Core.Bool.{Bool, not}
 use lib.Dec.{T}
 use lib.Ieee.{binary32}
 use Rattle.vdata.specs.Patterns.{float32}
-use Rattle.vdata.proofs.Nans.{is-nan, is-number}
+use Rattle.vdata.proofs.Patterns.{is-nan, is-number}
 use Rattle.vdata.proofs.value.float32.Statement.{statement}
 use Rattle.vdata.proofs.value.float32.Tie as tie
 

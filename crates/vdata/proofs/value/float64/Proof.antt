@@ -4,7 +4,7 @@ use mathlib.Core.Bool.{Bool, not}
 use lib.Dec.{T}
 use lib.Ieee.{binary64}
 use Rattle.vdata.specs.Patterns.{float64}
-use Rattle.vdata.proofs.Nans.{is-nan, is-number}
+use Rattle.vdata.proofs.Patterns.{is-nan, is-number}
 use Rattle.vdata.proofs.value.float64.Statement.{statement}
 use Rattle.vdata.proofs.value.float64.Tie as tie
 

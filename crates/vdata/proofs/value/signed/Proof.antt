@@ -2,15 +2,15 @@
 use borrow.Author.Needs.{needs}
 use Prim.Native.Nat.{ℕ, _*_, _<_, _^_}
 use native.Mathlib.Omega.{arith}
-use mathlib.Core.Path.{_≡_, sym, subst, ap, _∙_}
+use mathlib.Core.Path.{_≡_, ap, _∙_}
 use borrow.Author.Tests.{lt-ltb, le-ltb}
-use lib.IntN.{ℤ, pos, _-ℤ_}
+use lib.IntN.{pos, _-ℤ_}
 use mir.Syntax.{w64}
 use mir.Val.{SFits, toZ}
 use mir.Facts.{toZ-pos, toZ-ofZ}
 use Rattle.vdata.specs.Patterns.{signedBy}
 use Rattle.vdata.specs.declared.value.Value.the-variants.{Signed}
-use Rattle.vdata.proofs.Less.{less-fits}
+use Rattle.vdata.proofs.Patterns.{less-fits}
 use Rattle.vdata.proofs.value.signed.Statement.{statement}
 use Rattle.vdata.proofs.value.signed.Tie as tie
 

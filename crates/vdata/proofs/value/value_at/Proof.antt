@@ -1,12 +1,12 @@
 -- `vdata::value::value_at` meets its contract. Assumes nothing.
 use borrow.Author.Needs.{needs}
-use mathlib.Core.Path.{_≡_, sym, ap, _∙_}
-use Rattle.vhead.specs.Types.{rowOf, widthOf, kindOf}
+use mathlib.Core.Path.{sym, ap, _∙_}
+use Rattle.records.specs.Types.{rowOf, widthOf, kindOf}
 use Rattle.vdata.specs.Patterns.{signedBy, float32, float64, valueBy, valueAt}
 use Rattle.vdata.specs.declared.value.Value.the-variants.{Unsigned}
 use Rattle.wire.specs.Numbers.{be}
-use Rattle.vhead.proofs.Codes
-use Rattle.vdata.proofs.Patterned
+use Rattle.records.proofs.Types
+use Rattle.vdata.proofs.Patterns
 use Rattle.vdata.proofs.value.value_at.Statement.{statement}
 use Rattle.vdata.proofs.value.value_at.Tie as tie
 
@@ -65,27 +65,27 @@ width-requires c κs = search needs
 
 returns-6 : tie.Need-returns-6
 unfolding be
-returns-6 c = sym (Patterned.value-unsigned _ (c .before .before .before .before .before .before .if1 .left) (c .before .before .before .before .before .if2 .left) (c .before .before .before .before .if3 .left) (c .before .before .before .if4 .left) (c .before .before .if5 .left) 0 (sym (c .before .width .ensures .0) ∙ c .if6 .taken) _ _)
+returns-6 c = sym (Patterns.value-unsigned _ (c .before .before .before .before .before .before .if1 .left) (c .before .before .before .before .before .if2 .left) (c .before .before .before .before .if3 .left) (c .before .before .before .if4 .left) (c .before .before .if5 .left) 0 (sym (c .before .width .ensures .0) ∙ c .if6 .taken) _ _)
 
 read8-requires-2 : tie.Need-read8-requires-2
 read8-requires-2 c κs = search needs
 
 returns-7 : tie.Need-returns-7
-returns-7 c = ap Unsigned (c .read82 .ensures .is) ∙ sym (Patterned.value-unsigned _ (c .before .before .before .before .before .before .before .before .if1 .left) (c .before .before .before .before .before .before .before .if2 .left) (c .before .before .before .before .before .before .if3 .left) (c .before .before .before .before .before .if4 .left) (c .before .before .before .before .if5 .left) 1 (sym (c .before .before .before .width .ensures .0) ∙ c .before .if7 .taken) _ _)
+returns-7 c = ap Unsigned (c .read82 .ensures .is) ∙ sym (Patterns.value-unsigned _ (c .before .before .before .before .before .before .before .before .if1 .left) (c .before .before .before .before .before .before .before .if2 .left) (c .before .before .before .before .before .before .if3 .left) (c .before .before .before .before .before .if4 .left) (c .before .before .before .before .if5 .left) 1 (sym (c .before .before .before .width .ensures .0) ∙ c .before .if7 .taken) _ _)
 
 read16-requires-2 : tie.Need-read16-requires-2
 read16-requires-2 c κs = search needs
 
 returns-8 : tie.Need-returns-8
-returns-8 c = ap Unsigned (c .read162 .ensures .is) ∙ sym (Patterned.value-unsigned _ (c .before .before .before .before .before .before .before .before .before .if1 .left) (c .before .before .before .before .before .before .before .before .if2 .left) (c .before .before .before .before .before .before .before .if3 .left) (c .before .before .before .before .before .before .if4 .left) (c .before .before .before .before .before .if5 .left) 2 (sym (c .before .before .before .before .width .ensures .0) ∙ c .before .if8 .taken) _ _)
+returns-8 c = ap Unsigned (c .read162 .ensures .is) ∙ sym (Patterns.value-unsigned _ (c .before .before .before .before .before .before .before .before .before .if1 .left) (c .before .before .before .before .before .before .before .before .if2 .left) (c .before .before .before .before .before .before .before .if3 .left) (c .before .before .before .before .before .before .if4 .left) (c .before .before .before .before .before .if5 .left) 2 (sym (c .before .before .before .before .width .ensures .0) ∙ c .before .if8 .taken) _ _)
 
 read32-requires-3 : tie.Need-read32-requires-3
 read32-requires-3 c κs = search needs
 
 returns-9 : tie.Need-returns-9
 returns-9 c =
-    let four = Codes.width-four _ (c .before .before .before .before .before .before .before .before .before .if1 .left) (c .before .before .before .before .before .before .before .before .if2 .left) (c .before .before .before .before .before .before .before .if3 .left) (c .before .before .before .before .before .before .if4 .left) (c .before .before .before .before .before .if5 .left) (λ z. c .before .before .before .if6 .left (c .before .before .before .before .width .ensures .0 ∙ z)) (λ z. c .before .before .if7 .left (c .before .before .before .before .width .ensures .0 ∙ z)) (λ z. c .before .if8 .left (c .before .before .before .before .width .ensures .0 ∙ z)) in
-    ap Unsigned (c .read323 .ensures .is) ∙ sym (Patterned.value-unsigned _ (c .before .before .before .before .before .before .before .before .before .if1 .left) (c .before .before .before .before .before .before .before .before .if2 .left) (c .before .before .before .before .before .before .before .if3 .left) (c .before .before .before .before .before .before .if4 .left) (c .before .before .before .before .before .if5 .left) 4 four _ _)
+    let four = Types.width-four _ (c .before .before .before .before .before .before .before .before .before .if1 .left) (c .before .before .before .before .before .before .before .before .if2 .left) (c .before .before .before .before .before .before .before .if3 .left) (c .before .before .before .before .before .before .if4 .left) (c .before .before .before .before .before .if5 .left) (λ z. c .before .before .before .if6 .left (c .before .before .before .before .width .ensures .0 ∙ z)) (λ z. c .before .before .if7 .left (c .before .before .before .before .width .ensures .0 ∙ z)) (λ z. c .before .if8 .left (c .before .before .before .before .width .ensures .0 ∙ z)) in
+    ap Unsigned (c .read323 .ensures .is) ∙ sym (Patterns.value-unsigned _ (c .before .before .before .before .before .before .before .before .before .if1 .left) (c .before .before .before .before .before .before .before .before .if2 .left) (c .before .before .before .before .before .before .before .if3 .left) (c .before .before .before .before .before .before .if4 .left) (c .before .before .before .before .before .if5 .left) 4 four _ _)
 
 pub value-at-spec : {M : Type 1} → statement M
 value-at-spec =

@@ -5,18 +5,18 @@ use mathlib.Core.Path.{_≡_, sym, _∙_}
 use lib.ListN.{length}
 use Rattle.records.proofs.Packings
 use Rattle.vgroup.specs.Groups.{groupBytes}
-use Rattle.vgroup.proofs.Groupings
+use Rattle.vgroup.proofs.Groups
 use borrow.Author.Needs.{needs}
 use Rattle.vgroup.proofs.group.pack.Statement.{statement}
 use Rattle.vgroup.proofs.group.pack.Tie as tie
 
 -- the parts break no rule
-sound : (c : tie.Else1) → let a = c .before .before .before .before .before .before .before .args in Groupings.PackSound (length (a .members .now)) (length (a .name .now)) (length (a .class .now)) (a .x .version)
-sound c = Groupings.pack-passed _ _ _ _ (sym (c .before .pack-fault .ensures) ∙ c .if1 .left)
+sound : (c : tie.Else1) → let a = c .before .before .before .before .before .before .before .args in Groups.PackSound (length (a .members .now)) (length (a .name .now)) (length (a .class .now)) (a .x .version)
+sound c = Groups.pack-passed _ _ _ _ (sym (c .before .pack-fault .ensures) ∙ c .if1 .left)
 
 long : (c : tie.Else1) → let a = c .before .before .before .before .before .before .before .args in
     length (groupBytes (a .members .now) (a .name .now) (a .class .now) (a .x)) ≡ 14 + 4 * (length (a .members .now) / 2) + length (a .name .now) + length (a .class .now)
-long c = Groupings.length-group _ _ _ _ (λ i. c .before .before .before .before .before .shared-slice-known2 .given i .fits) (λ i. c .before .before .before .before .shared-slice-known3 .given i .fits)
+long c = Groups.length-group _ _ _ _ (λ i. c .before .before .before .before .before .shared-slice-known2 .given i .fits) (λ i. c .before .before .before .before .shared-slice-known3 .given i .fits)
 
 cast-pack-fault : tie.Need-cast-pack-fault
 cast-pack-fault c = search needs
@@ -81,7 +81,7 @@ same-length c = search needs
 returns-3 : tie.Need-returns-3
 returns-3 c =
     Packings.packs-granted _ _ _ (sym (c .before .before .before .before .before .before .before .before .before .before .before .before .before .before .before .before .before .before .pack-fault .ensures) ∙ c .before .before .before .before .before .before .before .before .before .before .before .before .before .before .before .before .before .if1 .left) (omega (arith, long (c .before .before .before .before .before .before .before .before .before .before .before .before .before .before .before .before .before), c .before .before .before .before .before .before .before .before .before .before .before .before .before .before .before .before .if2 .left)) _ (sym (long (c .before .before .before .before .before .before .before .before .before .before .before .before .before .before .before .before .before))) _
-    (Groupings.laid-group _ _ _ _ (λ i. c .before .before .before .before .before .before .before .before .before .before .before .before .before .before .before .before .before .before .before .before .before .before .shared-slice-known2 .given i .fits) (λ i. c .before .before .before .before .before .before .before .before .before .before .before .before .before .before .before .before .before .before .before .before .before .shared-slice-known3 .given i .fits) _ _ _ _ _
+    (Groups.laid-group _ _ _ _ (λ i. c .before .before .before .before .before .before .before .before .before .before .before .before .before .before .before .before .before .before .before .before .before .before .shared-slice-known2 .given i .fits) (λ i. c .before .before .before .before .before .before .before .before .before .before .before .before .before .before .before .before .before .before .before .before .before .shared-slice-known3 .given i .fits) _ _ _ _ _
     (c .before .before .before .before .before .before .before .before .before .before .before .before .before .before .write16 .ensures) (c .before .before .before .before .before .before .before .before .before .before .lay-column .ensures) (c .before .before .before .before .before .before .lay-column2 .ensures) (c .before .before .lay .ensures))
 
 pub pack-spec : {M : Type 1} → statement M

@@ -1,6 +1,6 @@
 -- `vgroup::group::parse` meets its contract. Assumes nothing.
 use mathlib.Core.Path.{_∙_}
-use Rattle.vgroup.proofs.Groupings
+use Rattle.vgroup.proofs.Groups
 use borrow.Author.Needs.{needs}
 use Rattle.vgroup.proofs.group.parse.Statement.{statement}
 use Rattle.vgroup.proofs.group.parse.Tie as tie
@@ -27,7 +27,7 @@ parse-requires : tie.Need-parse-requires
 parse-requires c κs = search needs
 
 returns : tie.Need-returns
-returns c = Groupings.group-parsed _ _ _ (c .before .read16 .ensures) (c .parse .ensures ∙ Groupings.no-names (c .before .before .before .args .part .now) _)
+returns c = Groups.group-parsed _ _ _ (c .before .read16 .ensures) (c .parse .ensures ∙ Groups.no-names (c .before .before .before .args .part .now) _)
 
 pub parse-spec : {M : Type 1} → statement M
 parse-spec =

@@ -3,18 +3,19 @@ use Prim.Native.Nat.{_-_}
 use native.Mathlib.Omega.{arith}
 use lib.ListN.{length-set}
 use borrow.Author.Needs.{needs}
-use Rattle.vgroup.proofs.Groupings
+use Rattle.vset.proofs.Columns
+use Rattle.vgroup.proofs.Groups
 use Rattle.vgroup.proofs.group.put_members.Statement.{statement}
 use Rattle.vgroup.proofs.group.put_members.Tie as tie
 
 abbrev Inv-loop : tie.InvT-loop
-Inv-loop part count list₀ i₀ list i = Groupings.Filling part count list₀ list i
+Inv-loop part count list₀ i₀ list i = Columns.Filling 2 count (Groups.allMembers part count) list₀ (Groups.membersAfter part count i) list i
 
 abbrev μ-loop : tie.MeasureT-loop
 μ-loop part count list₀ i₀ list i = count - i
 
 loop-holds : tie.Need-loop-holds Inv-loop μ-loop
-loop-holds c = Groupings.filling-start _ _ _
+loop-holds c = Columns.filling-start _ _ _ _ _ (Groups.members-from _ _)
 
 mul-read16 : tie.Need-mul-read16 Inv-loop μ-loop
 mul-read16 c = omega arith
@@ -74,13 +75,15 @@ loop-less : tie.Need-loop-less Inv-loop μ-loop
 loop-less c = omega arith
 
 loop-again : tie.Need-loop-again Inv-loop μ-loop
-loop-again c = rw (c .before .read16 .ensures .is, c .read162 .ensures .is) (Groupings.filling-next _ _ _ _ _ (c .before .before .before .loop .inv) (c .before .before .loop-test .taken))
+loop-again c =
+    rw (c .before .read16 .ensures .is, c .read162 .ensures .is)
+    (Columns.filling-two (c .before .before .loop-test .taken) (c .before .before .before .loop .inv) (Groups.members-next _ _ _ (c .before .before .loop-test .taken)))
 
 same-length : tie.Need-same-length Inv-loop μ-loop
 same-length c = c .before .loop .inv .long
 
 returns : tie.Need-returns Inv-loop μ-loop
-returns c = Groupings.filling-done _ _ _ _ _ (c .before .loop .inv) (c .loop-test .left)
+returns c = Columns.filling-done (c .before .loop .inv) (Groups.members-none _ _ _ (c .loop-test .left))
 
 pub put-members-spec : {M : Type 1} → statement M
 put-members-spec =

@@ -1,15 +1,11 @@
--- `vgroup::listing::nested` and `walk`, which call each other, meet their contracts. The measure is how many groups may still be nested.
+-- `vgroup::listing::nested` and `walk`, which call each other, meet their contracts. The measure is how many groups may still be entered.
 -- Assumes nothing.
-use Prim.Native.Nat.{ℕ, _+_, _*_, _-_, _<_, _≤_}
+use Prim.Native.Nat.{ℕ, _+_, _*_, _-_, _<_}
 use native.Mathlib.Omega.{arith}
-use mathlib.Core.Path.{_≡_, refl, sym, ap, _∙_}
 use mathlib.Core.Logic.{⊎-elim}
 use borrow.Author.Needs.{needs}
-use Rattle.wire.specs.Numbers.{be}
-use Rattle.storage.proofs.Elements
-use Rattle.vgroup.specs.Groups.{groupFault}
-use Rattle.vgroup.proofs.Walking
-use Rattle.vgroup.proofs.Nesting
+use Rattle.vgroup.proofs.Listings
+use Rattle.vgroup.proofs.ListingsFound
 use borrow.Fn.Kinds.{In}
 use borrow.Fn.PlainCycle.{Measures, is, falls, and}
 use Rattle.vgroup.proofs.listing.nested.Reads as nested
@@ -18,15 +14,16 @@ use Rattle.vgroup.proofs.listing.+nested+walk.Lts-nested as nested-lts
 use Rattle.vgroup.proofs.listing.walk.Reads as walk
 use Rattle.vgroup.proofs.listing.walk.Kinds as walk-kinds
 use Rattle.vgroup.proofs.listing.+nested+walk.Lts-walk as walk-lts
-use Rattle.storage.proofs.view.refusal_of.Reads as refusal-of-reads
-use Rattle.vgroup.proofs.listing.find_group.Reads as find-group-reads
+use Rattle.storage.proofs.element.refusal_of.Reads as refusal-of-reads
+use Rattle.wire.proofs.part.Reads as part-reads
+use Rattle.vgroup.proofs.group.find.Reads as find-reads
 use Rattle.vgroup.proofs.listing.put_pair.Reads as put-pair-reads
 use Rattle.wire.proofs.read16.Reads as read16-reads
 use Rattle.vgroup.proofs.listing.+nested+walk.{statement}
 use Rattle.vgroup.proofs.listing.+nested+walk.Tie.{close}
 
 abbrev μ-nested : Measures 2 nested-kinds.ps ℕ
-μ-nested κs a = 2 * a .1 .1 .1 .0 + 1
+μ-nested κs a = 2 * a .1 .1 .1 .1 .0 + 1
 
 abbrev μ-walk : Measures 3 walk-kinds.ps ℕ
 μ-walk κs a = 2 * a .1 .1 .1 .1 .0
@@ -43,501 +40,186 @@ walk-at t = and 3 walk-kinds.ps (is 3 walk-kinds.ps μ-walk t) walk.Pre
 abbrev walk-below : ℕ → In 3 walk-kinds.ps
 walk-below t = and 3 walk-kinds.ps (falls 3 walk-kinds.ps _<_ μ-walk t) walk.Pre
 
-nested-find-group-requires : (t : ℕ) → nested-lts.Need-find-group-requires (
-  find-group-reads.Asked,
-  find-group-reads.Learnt,
-  refusal-of-reads.Asked,
-  refusal-of-reads.Learnt,
-  walk-below t,
-  walk.Post,
-) (nested-at t) nested.Post
-nested-find-group-requires t c κs = search needs
+-- what the calls in each are known to do
+abbrev nested-calls : ℕ → nested-lts.Claims
+nested-calls t = (find-reads.Asked, find-reads.Learnt, refusal-of-reads.Asked, refusal-of-reads.Learnt, part-reads.Asked, part-reads.Learnt, walk-below t, walk.Post)
 
-nested-enum-known-located : (t : ℕ) → nested-lts.Need-enum-known-located (
-  find-group-reads.Asked,
-  find-group-reads.Learnt,
-  refusal-of-reads.Asked,
-  refusal-of-reads.Learnt,
-  walk-below t,
-  walk.Post,
-) (nested-at t) nested.Post
-nested-enum-known-located t c = search needs
+abbrev walk-calls : ℕ → walk-lts.Claims
+walk-calls t = (read16-reads.Asked, read16-reads.Learnt, put-pair-reads.Asked, put-pair-reads.Learnt, nested-below t, nested.Post)
 
-nested-enum-told : (t : ℕ) → nested-lts.Need-enum-told (
-  find-group-reads.Asked,
-  find-group-reads.Learnt,
-  refusal-of-reads.Asked,
-  refusal-of-reads.Learnt,
-  walk-below t,
-  walk.Post,
-) (nested-at t) nested.Post
-nested-enum-told t c = search needs
+-- ---- The group of a reference
 
-nested-refusal-of-requires : (t : ℕ) → nested-lts.Need-refusal-of-requires (
-  find-group-reads.Asked,
-  find-group-reads.Learnt,
-  refusal-of-reads.Asked,
-  refusal-of-reads.Learnt,
-  walk-below t,
-  walk.Post,
-) (nested-at t) nested.Post
-nested-refusal-of-requires t c κs = search needs
+module _ (t : ℕ) where
+  nested-returns : nested-lts.Need-returns (nested-calls t) (nested-at t) nested.Post
+  nested-returns c = ListingsFound.walks-nothing _ _ _ _ _ (ListingsFound.nested-deep _ _ _ _ _ (c .if1 .taken))
 
-nested-returns : (t : ℕ) → nested-lts.Need-returns (
-  find-group-reads.Asked,
-  find-group-reads.Learnt,
-  refusal-of-reads.Asked,
-  refusal-of-reads.Learnt,
-  walk-below t,
-  walk.Post,
-) (nested-at t) nested.Post
-nested-returns t c = rw (c .refusal-of .ensures, c .before .enum-told .given .1) (Nesting.walks-nothing _ _ _ _ _ (Nesting.found-refused _ _ _ _ _ (sym (c .before .before .before .find-group .ensures) ∙ c .before .enum-told .given .1)))
+  nested-find-requires : nested-lts.Need-find-requires (nested-calls t) (nested-at t) nested.Post
+  nested-find-requires c κs = search needs
 
-nested-add-walk : (t : ℕ) → nested-lts.Need-add-walk (
-  find-group-reads.Asked,
-  find-group-reads.Learnt,
-  refusal-of-reads.Asked,
-  refusal-of-reads.Learnt,
-  walk-below t,
-  walk.Post,
-) (nested-at t) nested.Post
-nested-add-walk t c = omega (arith, Nesting.group-found _ _ _ _ _ (c .before .before .before .before .before .before .pre .1 .0 .sound) (sym (c .before .before .before .find-group .ensures) ∙ c .before .located .given .1) .inside)
+  nested-enum-known-located : nested-lts.Need-enum-known-located (nested-calls t) (nested-at t) nested.Post
+  nested-enum-known-located c = search needs
 
-nested-sub-walk : (t : ℕ) → nested-lts.Need-sub-walk (
-  find-group-reads.Asked,
-  find-group-reads.Learnt,
-  refusal-of-reads.Asked,
-  refusal-of-reads.Learnt,
-  walk-below t,
-  walk.Post,
-) (nested-at t) nested.Post
-nested-sub-walk t c = search needs
+  nested-enum-told : nested-lts.Need-enum-told (nested-calls t) (nested-at t) nested.Post
+  nested-enum-told c = search needs
 
-nested-part-walk-start : (t : ℕ) → nested-lts.Need-part-walk-start (
-  find-group-reads.Asked,
-  find-group-reads.Learnt,
-  refusal-of-reads.Asked,
-  refusal-of-reads.Learnt,
-  walk-below t,
-  walk.Post,
-) (nested-at t) nested.Post
-nested-part-walk-start t c = search needs
+  nested-refusal-of-requires : nested-lts.Need-refusal-of-requires (nested-calls t) (nested-at t) nested.Post
+  nested-refusal-of-requires c κs = search needs
 
-nested-part-walk-end : (t : ℕ) → nested-lts.Need-part-walk-end (
-  find-group-reads.Asked,
-  find-group-reads.Learnt,
-  refusal-of-reads.Asked,
-  refusal-of-reads.Learnt,
-  walk-below t,
-  walk.Post,
-) (nested-at t) nested.Post
-nested-part-walk-end t c = Nesting.group-found _ _ _ _ _ (c .before .before .before .before .before .before .pre .1 .0 .sound) (sym (c .before .before .before .find-group .ensures) ∙ c .before .located .given .1) .inside
+  nested-returns-2 : nested-lts.Need-returns-2 (nested-calls t) (nested-at t) nested.Post
+  nested-returns-2 c =
+      rw (c .refusal-of .ensures, c .before .enum-told .given .1)
+      (ListingsFound.walks-nothing _ _ _ _ _ (ListingsFound.nested-enters _ _ _ _ _ (c .before .before .before .before .if1 .left) _ (ListingsFound.group-found _ _ _ (c .before .before .before .before .before .before .before .pre .1 .0) _ (c .before .before .before .find .ensures) _ (c .before .enum-told .given .1))))
 
-nested-walk-requires : (t : ℕ) → nested-lts.Need-walk-requires (
-  find-group-reads.Asked,
-  find-group-reads.Learnt,
-  refusal-of-reads.Asked,
-  refusal-of-reads.Learnt,
-  walk-below t,
-  walk.Post,
-) (nested-at t) nested.Post
-nested-walk-requires t c κs = let f = Nesting.group-found _ _ _ _ _ (c .before .before .before .before .before .before .before .before .pre .1 .0 .sound) (sym (c .before .before .before .before .before .find-group .ensures) ∙ c .before .before .before .located .given .1) in let part = Elements.part-between _ _ _ ∙ f .content in (omega (arith, c .before .before .before .before .before .before .before .before .pre .0), (c .before .before .before .before .before .before .before .before .pre .1 .0, part, ap groupFault part ∙ Nesting.group-plain _ _ _ _ _ (sym (c .before .before .before .before .before .find-group .ensures) ∙ c .before .before .before .located .given .1) .1, c .before .before .before .before .before .before .before .before .pre .1 .1))
+  nested-part-requires : nested-lts.Need-part-requires (nested-calls t) (nested-at t) nested.Post
+  nested-part-requires c κs = search needs
 
-nested-same-length : (t : ℕ) → nested-lts.Need-same-length (
-  find-group-reads.Asked,
-  find-group-reads.Learnt,
-  refusal-of-reads.Asked,
-  refusal-of-reads.Learnt,
-  walk-below t,
-  walk.Post,
-) (nested-at t) nested.Post
-nested-same-length t c = search needs
+  nested-walk-requires : nested-lts.Need-walk-requires (nested-calls t) (nested-at t) nested.Post
+  nested-walk-requires c κs = (omega (arith, c .before .before .before .before .before .before .before .before .before .pre .0), (c .before .before .before .before .before .before .before .before .before .pre .1 .0, omega (arith, c .before .before .before .before .before .before .if1 .left), c .before .before .before .before .before .before .before .before .before .pre .1 .1))
 
-nested-returns-2 : (t : ℕ) → nested-lts.Need-returns-2 (
-  find-group-reads.Asked,
-  find-group-reads.Learnt,
-  refusal-of-reads.Asked,
-  refusal-of-reads.Learnt,
-  walk-below t,
-  walk.Post,
-) (nested-at t) nested.Post
-nested-returns-2 t c = rw (Nesting.found-goes _ _ _ _ _ _ _ (sym (c .before .before .before .before .before .before .before .before .find-group .ensures) ∙ c .before .before .before .before .before .before .located .given .1)) (c .before .before .walk .ensures)
+  nested-same-length : nested-lts.Need-same-length (nested-calls t) (nested-at t) nested.Post
+  nested-same-length c = search needs
 
-abbrev walk-Inv-members : walk-lts.InvT-members
-walk-Inv-members image blocks part slot depth room table₀ at count pairs₀ i₀ table pairs i = Walking.Walking image slot depth room at table₀ count table pairs i
+  nested-returns-3 : nested-lts.Need-returns-3 (nested-calls t) (nested-at t) nested.Post
+  nested-returns-3 c =
+      rw (ListingsFound.nested-enters _ _ _ _ _ (c .before .before .before .before .before .before .before .before .before .if1 .left) _ (ListingsFound.group-found _ _ _ (c .before .before .before .before .before .before .before .before .before .before .before .before .pre .1 .0) _ (c .before .before .before .before .before .before .before .before .find .ensures) _ (c .before .before .before .before .before .before .located .given .1)))
+      (rw (c .before .before .before .before .part .ensures) at (c .before .before .walk .ensures))
 
-abbrev walk-μ-members : walk-lts.MeasureT-members
-walk-μ-members image blocks part slot depth room table₀ at count pairs₀ i₀ table pairs i = count - i
+-- ---- The walk over a group's members
 
-walk-read16-requires : (t : ℕ) → walk-lts.Need-read16-requires (
-  read16-reads.Asked,
-  read16-reads.Learnt,
-  put-pair-reads.Asked,
-  put-pair-reads.Learnt,
-  nested-below t,
-  nested.Post,
-) (walk-at t) walk.Post walk-Inv-members walk-μ-members
-walk-read16-requires t c κs = search needs
+abbrev Inv-members : walk-lts.InvT-members
+Inv-members image blocks part slot groups room table₀ at count pairs₀ i₀ table pairs i = Listings.Walking image part slot groups room at table₀ count table pairs i
 
-walk-members-holds : (t : ℕ) → walk-lts.Need-members-holds (
-  read16-reads.Asked,
-  read16-reads.Learnt,
-  put-pair-reads.Asked,
-  put-pair-reads.Learnt,
-  nested-below t,
-  nested.Post,
-) (walk-at t) walk.Post walk-Inv-members walk-μ-members
-walk-members-holds t c = Walking.walk-start _ _ _ _ _ _ _ (c .read16 .ensures .is ∙ ap (λ e. be 2 e 0) (c .before .before .before .before .pre .1 .1))
+abbrev μ-members : walk-lts.MeasureT-members
+μ-members image blocks part slot groups room table₀ at count pairs₀ i₀ table pairs i = count - i
 
-walk-mul-read16 : (t : ℕ) → walk-lts.Need-mul-read16 (
-  read16-reads.Asked,
-  read16-reads.Learnt,
-  put-pair-reads.Asked,
-  put-pair-reads.Learnt,
-  nested-below t,
-  nested.Post,
-) (walk-at t) walk.Post walk-Inv-members walk-μ-members
-walk-mul-read16 t c = omega (arith, c .before .before .members .inv .upto, c .before .before .members .inv .few, c .before .before .before .before .before .before .before .pre .1 .3, c .before .before .before .read16 .ensures .small)
+module _ (t : ℕ) where
+  walk-read16-requires : walk-lts.Need-read16-requires (walk-calls t) (walk-at t) walk.Post Inv-members μ-members
+  walk-read16-requires c κs = search needs
 
-walk-add-read16 : (t : ℕ) → walk-lts.Need-add-read16 (
-  read16-reads.Asked,
-  read16-reads.Learnt,
-  put-pair-reads.Asked,
-  put-pair-reads.Learnt,
-  nested-below t,
-  nested.Post,
-) (walk-at t) walk.Post walk-Inv-members walk-μ-members
-walk-add-read16 t c = omega (arith, c .before .before .members .inv .upto, c .before .before .members .inv .few, c .before .before .before .before .before .before .before .pre .1 .3, c .before .before .before .read16 .ensures .small)
+  walk-members-holds : walk-lts.Need-members-holds (walk-calls t) (walk-at t) walk.Post Inv-members μ-members
+  walk-members-holds c = Listings.walk-start _ _ _ _ _ _ _ _ (c .read16 .ensures .is)
 
-walk-read16-requires-2 : (t : ℕ) → walk-lts.Need-read16-requires-2 (
-  read16-reads.Asked,
-  read16-reads.Learnt,
-  put-pair-reads.Asked,
-  put-pair-reads.Learnt,
-  nested-below t,
-  nested.Post,
-) (walk-at t) walk.Post walk-Inv-members walk-μ-members
-walk-read16-requires-2 t c κs = search needs
+  walk-mul-read16 : walk-lts.Need-mul-read16 (walk-calls t) (walk-at t) walk.Post Inv-members μ-members
+  walk-mul-read16 c = omega (arith, c .before .before .members .inv .upto, c .before .before .members .inv .few, c .before .before .before .before .before .before .before .pre .1 .2, c .before .before .before .read16 .ensures .small)
 
-walk-cast-tag : (t : ℕ) → walk-lts.Need-cast-tag (
-  read16-reads.Asked,
-  read16-reads.Learnt,
-  put-pair-reads.Asked,
-  put-pair-reads.Learnt,
-  nested-below t,
-  nested.Post,
-) (walk-at t) walk.Post walk-Inv-members walk-μ-members
-walk-cast-tag t c = search needs
+  walk-add-read16 : walk-lts.Need-add-read16 (walk-calls t) (walk-at t) walk.Post Inv-members μ-members
+  walk-add-read16 c = omega (arith, c .before .before .members .inv .upto, c .before .before .members .inv .few, c .before .before .before .before .before .before .before .pre .1 .2, c .before .before .before .read16 .ensures .small)
 
-walk-mul-read16-2 : (t : ℕ) → walk-lts.Need-mul-read16-2 (
-  read16-reads.Asked,
-  read16-reads.Learnt,
-  put-pair-reads.Asked,
-  put-pair-reads.Learnt,
-  nested-below t,
-  nested.Post,
-) (walk-at t) walk.Post walk-Inv-members walk-μ-members
-walk-mul-read16-2 t c = omega (arith, c .before .before .before .members .inv .upto, c .before .before .before .members .inv .few, c .before .before .before .before .before .before .before .before .pre .1 .3, c .before .before .before .before .read16 .ensures .small)
+  walk-read16-requires-2 : walk-lts.Need-read16-requires-2 (walk-calls t) (walk-at t) walk.Post Inv-members μ-members
+  walk-read16-requires-2 c κs = search needs
 
-walk-add-read16-2 : (t : ℕ) → walk-lts.Need-add-read16-2 (
-  read16-reads.Asked,
-  read16-reads.Learnt,
-  put-pair-reads.Asked,
-  put-pair-reads.Learnt,
-  nested-below t,
-  nested.Post,
-) (walk-at t) walk.Post walk-Inv-members walk-μ-members
-walk-add-read16-2 t c = omega (arith, c .before .before .before .members .inv .upto, c .before .before .before .members .inv .few, c .before .before .before .before .before .before .before .before .pre .1 .3, c .before .before .before .before .read16 .ensures .small)
+  walk-cast-tag : walk-lts.Need-cast-tag (walk-calls t) (walk-at t) walk.Post Inv-members μ-members
+  walk-cast-tag c = search needs
 
-walk-mul-read16-3 : (t : ℕ) → walk-lts.Need-mul-read16-3 (
-  read16-reads.Asked,
-  read16-reads.Learnt,
-  put-pair-reads.Asked,
-  put-pair-reads.Learnt,
-  nested-below t,
-  nested.Post,
-) (walk-at t) walk.Post walk-Inv-members walk-μ-members
-walk-mul-read16-3 t c = omega (arith, c .before .before .before .members .inv .upto, c .before .before .before .members .inv .few, c .before .before .before .before .before .before .before .before .pre .1 .3, c .before .before .before .before .read16 .ensures .small)
+  walk-mul-read16-2 : walk-lts.Need-mul-read16-2 (walk-calls t) (walk-at t) walk.Post Inv-members μ-members
+  walk-mul-read16-2 c = omega (arith, c .before .before .before .members .inv .upto, c .before .before .before .members .inv .few, c .before .before .before .before .before .before .before .before .pre .1 .2, c .before .before .before .before .read16 .ensures .small)
 
-walk-add-read16-3 : (t : ℕ) → walk-lts.Need-add-read16-3 (
-  read16-reads.Asked,
-  read16-reads.Learnt,
-  put-pair-reads.Asked,
-  put-pair-reads.Learnt,
-  nested-below t,
-  nested.Post,
-) (walk-at t) walk.Post walk-Inv-members walk-μ-members
-walk-add-read16-3 t c = omega (arith, c .before .before .before .members .inv .upto, c .before .before .before .members .inv .few, c .before .before .before .before .before .before .before .before .pre .1 .3, c .before .before .before .before .read16 .ensures .small)
+  walk-add-read16-2 : walk-lts.Need-add-read16-2 (walk-calls t) (walk-at t) walk.Post Inv-members μ-members
+  walk-add-read16-2 c = omega (arith, c .before .before .before .members .inv .upto, c .before .before .before .members .inv .few, c .before .before .before .before .before .before .before .before .pre .1 .2, c .before .before .before .before .read16 .ensures .small)
 
-walk-read16-requires-3 : (t : ℕ) → walk-lts.Need-read16-requires-3 (
-  read16-reads.Asked,
-  read16-reads.Learnt,
-  put-pair-reads.Asked,
-  put-pair-reads.Learnt,
-  nested-below t,
-  nested.Post,
-) (walk-at t) walk.Post walk-Inv-members walk-μ-members
-walk-read16-requires-3 t c κs = search needs
+  walk-mul-read16-3 : walk-lts.Need-mul-read16-3 (walk-calls t) (walk-at t) walk.Post Inv-members μ-members
+  walk-mul-read16-3 c = omega (arith, c .before .before .before .members .inv .upto, c .before .before .before .members .inv .few, c .before .before .before .before .before .before .before .before .pre .1 .2, c .before .before .before .before .read16 .ensures .small)
 
-walk-cast-reference : (t : ℕ) → walk-lts.Need-cast-reference (
-  read16-reads.Asked,
-  read16-reads.Learnt,
-  put-pair-reads.Asked,
-  put-pair-reads.Learnt,
-  nested-below t,
-  nested.Post,
-) (walk-at t) walk.Post walk-Inv-members walk-μ-members
-walk-cast-reference t c = search needs
+  walk-add-read16-3 : walk-lts.Need-add-read16-3 (walk-calls t) (walk-at t) walk.Post Inv-members μ-members
+  walk-add-read16-3 c = omega (arith, c .before .before .before .members .inv .upto, c .before .before .before .members .inv .few, c .before .before .before .before .before .before .before .before .pre .1 .2, c .before .before .before .before .read16 .ensures .small)
 
-walk-mul-put-pair : (t : ℕ) → walk-lts.Need-mul-put-pair (
-  read16-reads.Asked,
-  read16-reads.Learnt,
-  put-pair-reads.Asked,
-  put-pair-reads.Learnt,
-  nested-below t,
-  nested.Post,
-) (walk-at t) walk.Post walk-Inv-members walk-μ-members
-walk-mul-put-pair t c = omega (arith, c .before .before .before .before .before .members .inv .upto, c .before .before .before .before .before .members .inv .few, c .before .before .before .before .before .before .before .before .before .before .pre .1 .3, c .before .before .before .before .before .before .read16 .ensures .small)
+  walk-read16-requires-3 : walk-lts.Need-read16-requires-3 (walk-calls t) (walk-at t) walk.Post Inv-members μ-members
+  walk-read16-requires-3 c κs = search needs
 
-walk-add-put-pair : (t : ℕ) → walk-lts.Need-add-put-pair (
-  read16-reads.Asked,
-  read16-reads.Learnt,
-  put-pair-reads.Asked,
-  put-pair-reads.Learnt,
-  nested-below t,
-  nested.Post,
-) (walk-at t) walk.Post walk-Inv-members walk-μ-members
-walk-add-put-pair t c = omega (arith, c .before .before .before .before .before .members .inv .upto, c .before .before .before .before .before .members .inv .few, c .before .before .before .before .before .before .before .before .before .before .pre .1 .3, c .before .before .before .before .before .before .read16 .ensures .small)
+  walk-cast-reference : walk-lts.Need-cast-reference (walk-calls t) (walk-at t) walk.Post Inv-members μ-members
+  walk-cast-reference c = search needs
 
-walk-put-pair-requires : (t : ℕ) → walk-lts.Need-put-pair-requires (
-  read16-reads.Asked,
-  read16-reads.Learnt,
-  put-pair-reads.Asked,
-  put-pair-reads.Learnt,
-  nested-below t,
-  nested.Post,
-) (walk-at t) walk.Post walk-Inv-members walk-μ-members
-walk-put-pair-requires t c κs = search needs
+  walk-mul-put-pair : walk-lts.Need-mul-put-pair (walk-calls t) (walk-at t) walk.Post Inv-members μ-members
+  walk-mul-put-pair c = omega (arith, c .before .before .before .before .before .members .inv .upto, c .before .before .before .before .before .members .inv .few, c .before .before .before .before .before .before .before .before .before .before .pre .1 .2, c .before .before .before .before .before .before .read16 .ensures .small)
 
-walk-add-pairs : (t : ℕ) → walk-lts.Need-add-pairs (
-  read16-reads.Asked,
-  read16-reads.Learnt,
-  put-pair-reads.Asked,
-  put-pair-reads.Learnt,
-  nested-below t,
-  nested.Post,
-) (walk-at t) walk.Post walk-Inv-members walk-μ-members
-walk-add-pairs t c = omega (arith, c .before .before .before .before .before .before .before .before .members .inv .upto, c .before .before .before .before .before .before .before .before .members .inv .few, c .before .before .before .before .before .before .before .before .before .before .before .before .before .pre .1 .3, c .before .before .before .before .before .before .before .before .before .read16 .ensures .small)
+  walk-add-put-pair : walk-lts.Need-add-put-pair (walk-calls t) (walk-at t) walk.Post Inv-members μ-members
+  walk-add-put-pair c = omega (arith, c .before .before .before .before .before .members .inv .upto, c .before .before .before .before .before .members .inv .few, c .before .before .before .before .before .before .before .before .before .before .pre .1 .2, c .before .before .before .before .before .before .read16 .ensures .small)
 
-walk-sub-nested : (t : ℕ) → walk-lts.Need-sub-nested (
-  read16-reads.Asked,
-  read16-reads.Learnt,
-  put-pair-reads.Asked,
-  put-pair-reads.Learnt,
-  nested-below t,
-  nested.Post,
-) (walk-at t) walk.Post walk-Inv-members walk-μ-members
-walk-sub-nested t c = omega (arith, c .if4 .left)
+  walk-put-pair-requires : walk-lts.Need-put-pair-requires (walk-calls t) (walk-at t) walk.Post Inv-members μ-members
+  walk-put-pair-requires c κs = search needs
 
-walk-sub-nested-2 : (t : ℕ) → walk-lts.Need-sub-nested-2 (
-  read16-reads.Asked,
-  read16-reads.Learnt,
-  put-pair-reads.Asked,
-  put-pair-reads.Learnt,
-  nested-below t,
-  nested.Post,
-) (walk-at t) walk.Post walk-Inv-members walk-μ-members
-walk-sub-nested-2 t c = omega (arith, c .before .before .before .before .before .before .before .before .before .before .members .inv .few, c .before .before .before .before .before .before .before .before .if2 .left)
+  -- a member was put into the table
+  stepped : (c : walk-lts.After-slice-known2 (walk-calls t) (walk-at t) walk.Post Inv-members μ-members)
+      → let a = c .before .before .before .before .before .before .before .before .before .before .before .before .before .args in let m = c .before .before .before .before .before .before .before .before .members in
+      Listings.Stepped (a .image .now) (a .part .now) (a .slot) (a .groups) (a .room) (a .at) (a .table .now) (c .before .before .before .before .before .before .before .before .before .read16 .result) (m .table) (m .pairs) (m .i)
+      (c .before .before .before .before .before .read162 .result) (c .before .before .before .before .read163 .result) (c .before .before .put-pair .last .0)
+  stepped c =
+      record {
+        walk = c .before .before .before .before .before .before .before .before .members .inv;
+        more = omega (arith, c .before .before .before .before .before .before .before .before .members .inv .upto, c .before .before .before .before .before .before .before .if1 .left);
+        room-left = omega (arith, c .before .before .before .before .before .before .before .before .members .inv .few, c .before .before .before .before .before .before .if2 .left);
+        tag-is = c .before .before .before .before .before .read162 .ensures .is;
+        ref-is = c .before .before .before .before .read163 .ensures .is;
+        puts = c .before .before .put-pair .ensures;
+      }
 
-walk-mul-nested : (t : ℕ) → walk-lts.Need-mul-nested (
-  read16-reads.Asked,
-  read16-reads.Learnt,
-  put-pair-reads.Asked,
-  put-pair-reads.Learnt,
-  nested-below t,
-  nested.Post,
-) (walk-at t) walk.Post walk-Inv-members walk-μ-members
-walk-mul-nested t c = omega (arith, c .before .before .before .before .before .before .before .before .before .before .before .members .inv .upto, c .before .before .before .before .before .before .before .before .before .before .before .members .inv .few, c .before .before .before .before .before .before .before .before .before .before .before .before .before .before .before .before .pre .1 .3, c .before .before .before .before .before .before .before .before .before .before .before .before .read16 .ensures .small)
+  walk-add-pairs : walk-lts.Need-add-pairs (walk-calls t) (walk-at t) walk.Post Inv-members μ-members
+  walk-add-pairs c = omega (arith, c .before .before .before .before .before .before .before .before .members .inv .upto, c .before .before .before .before .before .before .before .before .members .inv .few, c .before .before .before .before .before .before .before .before .before .before .before .before .before .pre .1 .2, c .before .before .before .before .before .before .before .before .before .read16 .ensures .small)
 
-walk-add-nested : (t : ℕ) → walk-lts.Need-add-nested (
-  read16-reads.Asked,
-  read16-reads.Learnt,
-  put-pair-reads.Asked,
-  put-pair-reads.Learnt,
-  nested-below t,
-  nested.Post,
-) (walk-at t) walk.Post walk-Inv-members walk-μ-members
-walk-add-nested t c = omega (arith, c .before .before .before .before .before .before .before .before .before .before .before .members .inv .upto, c .before .before .before .before .before .before .before .before .before .before .before .members .inv .few, c .before .before .before .before .before .before .before .before .before .before .before .before .before .before .before .before .pre .1 .3, c .before .before .before .before .before .before .before .before .before .before .before .before .read16 .ensures .small)
+  walk-sub-nested : walk-lts.Need-sub-nested (walk-calls t) (walk-at t) walk.Post Inv-members μ-members
+  walk-sub-nested c = c .before .before .before .before .before .before .before .before .before .before .before .before .before .before .pre .1 .1
 
-walk-nested-requires : (t : ℕ) → walk-lts.Need-nested-requires (
-  read16-reads.Asked,
-  read16-reads.Learnt,
-  put-pair-reads.Asked,
-  put-pair-reads.Learnt,
-  nested-below t,
-  nested.Post,
-) (walk-at t) walk.Post walk-Inv-members walk-μ-members
-walk-nested-requires t c κs = (omega (arith, c .before .before .before .before .before .before .before .before .before .before .before .before .before .before .before .before .pre .0, c .before .if4 .left), (c .before .before .before .before .before .before .before .before .before .before .before .before .before .before .before .before .pre .1 .0, omega (arith, c .before .before .before .before .before .before .before .before .before .before .before .before .before .before .before .before .pre .1 .3, c .before .before .before .before .before .before .before .before .before .before .before .members .inv .few, c .before .before .before .before .before .before .before .before .before .if2 .left)))
+  walk-sub-nested-2 : walk-lts.Need-sub-nested-2 (walk-calls t) (walk-at t) walk.Post Inv-members μ-members
+  walk-sub-nested-2 c = omega (arith, stepped (c .before) .room-left)
 
-walk-add-pairs-2 : (t : ℕ) → walk-lts.Need-add-pairs-2 (
-  read16-reads.Asked,
-  read16-reads.Learnt,
-  put-pair-reads.Asked,
-  put-pair-reads.Learnt,
-  nested-below t,
-  nested.Post,
-) (walk-at t) walk.Post walk-Inv-members walk-μ-members
-walk-add-pairs-2 t c = omega (arith, Walking.inner-few _ _ _ _ _ _ _ _ _ _ (c .before .before .before .before .before .before .before .before .before .before .before .before .before .before .before .members .inv) (omega (arith, c .before .before .before .before .before .before .before .before .before .before .before .before .before .before .before .members .inv .upto, c .before .before .before .before .before .before .before .before .before .before .before .before .before .before .if1 .left)) (omega (arith, c .before .before .before .before .before .before .before .before .before .before .before .before .before .before .before .members .inv .few, c .before .before .before .before .before .before .before .before .before .before .before .before .before .if2 .left)) _ (c .before .before .before .before .before .before .before .before .before .before .before .before .before .before .before .before .before .before .before .before .pre .1 .1) _ _ (c .before .before .before .before .before .before .before .before .before .before .before .before .read162 .ensures .is) (c .before .before .before .before .before .before .before .before .before .before .before .read163 .ensures .is) _ (c .before .before .before .before .before .before .before .before .before .put-pair .ensures) (c .before .before .before .before .before .before .if3 .taken) _ (omega (arith, c .before .before .before .before .before .if4 .left)) _ _ (c .before .before .before .nested .ensures), c .before .before .before .before .before .before .before .before .before .before .before .before .before .before .before .members .inv .few, c .before .before .before .before .before .before .before .before .before .before .before .before .before .before .before .before .before .before .before .before .pre .1 .3)
+  walk-mul-nested : walk-lts.Need-mul-nested (walk-calls t) (walk-at t) walk.Post Inv-members μ-members
+  walk-mul-nested c = omega (arith, c .before .before .before .before .before .before .before .before .before .before .members .inv .upto, c .before .before .before .before .before .before .before .before .before .before .members .inv .few, c .before .before .before .before .before .before .before .before .before .before .before .before .before .before .before .pre .1 .2, c .before .before .before .before .before .before .before .before .before .before .before .read16 .ensures .small)
 
-walk-add-i : (t : ℕ) → walk-lts.Need-add-i (
-  read16-reads.Asked,
-  read16-reads.Learnt,
-  put-pair-reads.Asked,
-  put-pair-reads.Learnt,
-  nested-below t,
-  nested.Post,
-) (walk-at t) walk.Post walk-Inv-members walk-μ-members
-walk-add-i t c = omega (arith, c .before .before .before .before .before .before .before .before .before .members .inv .upto, c .before .before .before .before .before .before .before .before .before .members .inv .few, c .before .before .before .before .before .before .before .before .before .before .before .before .before .before .pre .1 .3, c .before .before .before .before .before .before .before .before .before .before .read16 .ensures .small)
+  walk-add-nested : walk-lts.Need-add-nested (walk-calls t) (walk-at t) walk.Post Inv-members μ-members
+  walk-add-nested c = omega (arith, c .before .before .before .before .before .before .before .before .before .before .members .inv .upto, c .before .before .before .before .before .before .before .before .before .before .members .inv .few, c .before .before .before .before .before .before .before .before .before .before .before .before .before .before .before .pre .1 .2, c .before .before .before .before .before .before .before .before .before .before .before .read16 .ensures .small)
 
-walk-members-less : (t : ℕ) → walk-lts.Need-members-less (
-  read16-reads.Asked,
-  read16-reads.Learnt,
-  put-pair-reads.Asked,
-  put-pair-reads.Learnt,
-  nested-below t,
-  nested.Post,
-) (walk-at t) walk.Post walk-Inv-members walk-μ-members
-walk-members-less t c = omega (arith, c .before .before .before .before .before .before .before .before .before .members .inv .upto, c .before .before .before .before .before .before .before .before .if1 .left)
+  walk-nested-requires : walk-lts.Need-nested-requires (walk-calls t) (walk-at t) walk.Post Inv-members μ-members
+  walk-nested-requires c κs = (omega (arith, c .before .before .before .before .before .before .before .before .before .before .before .before .before .before .before .pre .0, c .before .before .before .before .before .before .before .before .before .before .before .before .before .before .before .pre .1 .1), (c .before .before .before .before .before .before .before .before .before .before .before .before .before .before .before .pre .1 .0, omega (arith, c .before .before .before .before .before .before .before .before .before .before .before .before .before .before .before .pre .1 .2, stepped (c .before .before) .room-left)))
 
-walk-members-again : (t : ℕ) → walk-lts.Need-members-again (
-  read16-reads.Asked,
-  read16-reads.Learnt,
-  put-pair-reads.Asked,
-  put-pair-reads.Learnt,
-  nested-below t,
-  nested.Post,
-) (walk-at t) walk.Post walk-Inv-members walk-μ-members
-walk-members-again t c =
-    ⊎-elim
-    (λ w. rw (w .9, w .10) (Walking.walk-nested _ _ _ _ _ _ _ _ _ _ (c .before .before .before .before .before .before .before .before .before .members .inv) (omega (arith, c .before .before .before .before .before .before .before .before .before .members .inv .upto, c .before .before .before .before .before .before .before .before .if1 .left)) (omega (arith, c .before .before .before .before .before .before .before .before .before .members .inv .few, c .before .before .before .before .before .before .before .if2 .left)) _ (c .before .before .before .before .before .before .before .before .before .before .before .before .before .before .pre .1 .1) _ _ (c .before .before .before .before .before .before .read162 .ensures .is) (c .before .before .before .before .before .read163 .ensures .is) _ (c .before .before .before .put-pair .ensures) (w .0 .taken) _ (omega (arith, w .1 .left)) _ _ (w .3 .ensures) (w .8 .left)))
-    (λ w. rw (w .1, w .2) (Walking.walk-other _ _ _ _ _ _ _ _ _ _ (c .before .before .before .before .before .before .before .before .before .members .inv) (omega (arith, c .before .before .before .before .before .before .before .before .before .members .inv .upto, c .before .before .before .before .before .before .before .before .if1 .left)) (omega (arith, c .before .before .before .before .before .before .before .before .before .members .inv .few, c .before .before .before .before .before .before .before .if2 .left)) _ (c .before .before .before .before .before .before .before .before .before .before .before .before .before .before .pre .1 .1) _ _ (c .before .before .before .before .before .before .read162 .ensures .is) (c .before .before .before .before .before .read163 .ensures .is) _ (c .before .before .before .put-pair .ensures) (w .0 .left)))
-    (c .if3 .came)
+  walk-add-pairs-2 : walk-lts.Need-add-pairs-2 (walk-calls t) (walk-at t) walk.Post Inv-members μ-members
+  walk-add-pairs-2 c = omega (arith, Listings.inner-few (stepped (c .before .before .before .before .before .before)) (c .before .before .before .before .before .if3 .taken) (c .before .before .before .nested .ensures), stepped (c .before .before .before .before .before .before) .room-left, c .before .before .before .before .before .before .before .before .before .before .before .before .before .before .before .before .before .before .before .pre .1 .2)
 
-walk-same-length : (t : ℕ) → walk-lts.Need-same-length (
-  read16-reads.Asked,
-  read16-reads.Learnt,
-  put-pair-reads.Asked,
-  put-pair-reads.Learnt,
-  nested-below t,
-  nested.Post,
-) (walk-at t) walk.Post walk-Inv-members walk-μ-members
-walk-same-length t c = Walking.walk-long _ _ _ _ _ _ _ _ _ _ (c .before .members .inv)
+  walk-add-i : walk-lts.Need-add-i (walk-calls t) (walk-at t) walk.Post Inv-members μ-members
+  walk-add-i c = omega (arith, c .before .before .before .before .before .before .before .before .before .members .inv .upto, c .before .before .before .before .before .before .before .before .before .members .inv .few, c .before .before .before .before .before .before .before .before .before .before .before .before .before .before .pre .1 .2, c .before .before .before .before .before .before .before .before .before .before .read16 .ensures .small)
 
-walk-returns : (t : ℕ) → walk-lts.Need-returns (
-  read16-reads.Asked,
-  read16-reads.Learnt,
-  put-pair-reads.Asked,
-  put-pair-reads.Learnt,
-  nested-below t,
-  nested.Post,
-) (walk-at t) walk.Post walk-Inv-members walk-μ-members
-walk-returns t c = Walking.walk-ends _ _ _ _ _ _ _ _ _ _ (c .before .members .inv) (c .if1 .taken)
+  walk-members-less : walk-lts.Need-members-less (walk-calls t) (walk-at t) walk.Post Inv-members μ-members
+  walk-members-less c = omega (arith, stepped (c .before) .more)
 
-walk-same-length-2 : (t : ℕ) → walk-lts.Need-same-length-2 (
-  read16-reads.Asked,
-  read16-reads.Learnt,
-  put-pair-reads.Asked,
-  put-pair-reads.Learnt,
-  nested-below t,
-  nested.Post,
-) (walk-at t) walk.Post walk-Inv-members walk-μ-members
-walk-same-length-2 t c = Walking.walk-long _ _ _ _ _ _ _ _ _ _ (c .before .before .members .inv)
+  walk-members-again : walk-lts.Need-members-again (walk-calls t) (walk-at t) walk.Post Inv-members μ-members
+  walk-members-again c =
+      ⊎-elim
+      (λ w. rw (w .8, w .9) (Listings.walk-nested (stepped (c .before)) (w .0 .taken) (w .2 .ensures) (w .7 .left)))
+      (λ w. rw (w .1, w .2) (Listings.walk-other (stepped (c .before)) (w .0 .left)))
+      (c .if3 .came)
 
-walk-returns-2 : (t : ℕ) → walk-lts.Need-returns-2 (
-  read16-reads.Asked,
-  read16-reads.Learnt,
-  put-pair-reads.Asked,
-  put-pair-reads.Learnt,
-  nested-below t,
-  nested.Post,
-) (walk-at t) walk.Post walk-Inv-members walk-μ-members
-walk-returns-2 t c = Walking.walk-full _ _ _ _ _ _ _ _ _ _ (c .before .before .members .inv) (omega (arith, c .before .before .members .inv .upto, c .before .if1 .left)) (c .if2 .taken)
+  walk-same-length : walk-lts.Need-same-length (walk-calls t) (walk-at t) walk.Post Inv-members μ-members
+  walk-same-length c = Listings.walk-long (c .before .members .inv)
 
-walk-same-length-3 : (t : ℕ) → walk-lts.Need-same-length-3 (
-  read16-reads.Asked,
-  read16-reads.Learnt,
-  put-pair-reads.Asked,
-  put-pair-reads.Learnt,
-  nested-below t,
-  nested.Post,
-) (walk-at t) walk.Post walk-Inv-members walk-μ-members
-walk-same-length-3 t c = Walking.put-long _ _ _ _ _ _ _ _ _ _ (c .before .before .before .before .before .before .before .before .before .before .members .inv) (omega (arith, c .before .before .before .before .before .before .before .before .before .before .members .inv .upto, c .before .before .before .before .before .before .before .before .before .if1 .left)) (omega (arith, c .before .before .before .before .before .before .before .before .before .before .members .inv .few, c .before .before .before .before .before .before .before .before .if2 .left)) _ (c .before .before .before .before .before .before .before .before .before .before .before .before .before .before .before .pre .1 .1) _ _ (c .before .before .before .before .before .before .before .read162 .ensures .is) (c .before .before .before .before .before .before .read163 .ensures .is) _ (c .before .before .before .before .put-pair .ensures)
+  walk-returns : walk-lts.Need-returns (walk-calls t) (walk-at t) walk.Post Inv-members μ-members
+  walk-returns c = Listings.walk-ends (c .before .members .inv) (c .if1 .taken)
 
-walk-returns-3 : (t : ℕ) → walk-lts.Need-returns-3 (
-  read16-reads.Asked,
-  read16-reads.Learnt,
-  put-pair-reads.Asked,
-  put-pair-reads.Learnt,
-  nested-below t,
-  nested.Post,
-) (walk-at t) walk.Post walk-Inv-members walk-μ-members
-walk-returns-3 t c = Walking.walk-deep _ _ _ _ _ _ _ _ _ _ (c .before .before .before .before .before .before .before .before .before .before .members .inv) (omega (arith, c .before .before .before .before .before .before .before .before .before .before .members .inv .upto, c .before .before .before .before .before .before .before .before .before .if1 .left)) (omega (arith, c .before .before .before .before .before .before .before .before .before .before .members .inv .few, c .before .before .before .before .before .before .before .before .if2 .left)) _ (c .before .before .before .before .before .before .before .before .before .before .before .before .before .before .before .pre .1 .1) _ _ (c .before .before .before .before .before .before .before .read162 .ensures .is) (c .before .before .before .before .before .before .read163 .ensures .is) _ (c .before .before .before .before .put-pair .ensures) (c .before .if3 .taken) (c .if4 .taken)
+  walk-same-length-2 : walk-lts.Need-same-length-2 (walk-calls t) (walk-at t) walk.Post Inv-members μ-members
+  walk-same-length-2 c = Listings.walk-long (c .before .before .members .inv)
 
-walk-same-length-4 : (t : ℕ) → walk-lts.Need-same-length-4 (
-  read16-reads.Asked,
-  read16-reads.Learnt,
-  put-pair-reads.Asked,
-  put-pair-reads.Learnt,
-  nested-below t,
-  nested.Post,
-) (walk-at t) walk.Post walk-Inv-members walk-μ-members
-walk-same-length-4 t c = Walking.inner-long _ _ _ _ _ _ _ _ _ _ (c .before .before .before .before .before .before .before .before .before .before .before .before .before .before .before .before .before .members .inv) (omega (arith, c .before .before .before .before .before .before .before .before .before .before .before .before .before .before .before .before .before .members .inv .upto, c .before .before .before .before .before .before .before .before .before .before .before .before .before .before .before .before .if1 .left)) (omega (arith, c .before .before .before .before .before .before .before .before .before .before .before .before .before .before .before .before .before .members .inv .few, c .before .before .before .before .before .before .before .before .before .before .before .before .before .before .before .if2 .left)) _ (c .before .before .before .before .before .before .before .before .before .before .before .before .before .before .before .before .before .before .before .before .before .before .pre .1 .1) _ _ (c .before .before .before .before .before .before .before .before .before .before .before .before .before .before .read162 .ensures .is) (c .before .before .before .before .before .before .before .before .before .before .before .before .before .read163 .ensures .is) _ (c .before .before .before .before .before .before .before .before .before .before .before .put-pair .ensures) (c .before .before .before .before .before .before .before .before .if3 .taken) _ (omega (arith, c .before .before .before .before .before .before .before .if4 .left)) _ _ (c .before .before .before .before .before .nested .ensures)
+  walk-returns-2 : walk-lts.Need-returns-2 (walk-calls t) (walk-at t) walk.Post Inv-members μ-members
+  walk-returns-2 c = Listings.walk-full (c .before .before .members .inv) (omega (arith, c .before .before .members .inv .upto, c .before .if1 .left)) (c .if2 .taken)
 
-walk-returns-4 : (t : ℕ) → walk-lts.Need-returns-4 (
-  read16-reads.Asked,
-  read16-reads.Learnt,
-  put-pair-reads.Asked,
-  put-pair-reads.Learnt,
-  nested-below t,
-  nested.Post,
-) (walk-at t) walk.Post walk-Inv-members walk-μ-members
-walk-returns-4 t c = Walking.walk-broken _ _ _ _ _ _ _ _ _ _ (c .before .before .before .before .before .before .before .before .before .before .before .before .before .before .before .before .before .members .inv) (omega (arith, c .before .before .before .before .before .before .before .before .before .before .before .before .before .before .before .before .before .members .inv .upto, c .before .before .before .before .before .before .before .before .before .before .before .before .before .before .before .before .if1 .left)) (omega (arith, c .before .before .before .before .before .before .before .before .before .before .before .before .before .before .before .before .before .members .inv .few, c .before .before .before .before .before .before .before .before .before .before .before .before .before .before .before .if2 .left)) _ (c .before .before .before .before .before .before .before .before .before .before .before .before .before .before .before .before .before .before .before .before .before .before .pre .1 .1) _ _ (c .before .before .before .before .before .before .before .before .before .before .before .before .before .before .read162 .ensures .is) (c .before .before .before .before .before .before .before .before .before .before .before .before .before .read163 .ensures .is) _ (c .before .before .before .before .before .before .before .before .before .before .before .put-pair .ensures) (c .before .before .before .before .before .before .before .before .if3 .taken) _ (omega (arith, c .before .before .before .before .before .before .before .if4 .left)) _ _ (c .before .before .before .before .before .nested .ensures) (c .if5 .taken)
+  walk-same-length-3 : walk-lts.Need-same-length-3 (walk-calls t) (walk-at t) walk.Post Inv-members μ-members
+  walk-same-length-3 c = Listings.inner-long (stepped (c .before .before .before .before .before .before .before .before)) (c .before .before .before .before .before .before .before .if3 .taken) (c .before .before .before .before .before .nested .ensures)
+
+  walk-returns-3 : walk-lts.Need-returns-3 (walk-calls t) (walk-at t) walk.Post Inv-members μ-members
+  walk-returns-3 c = Listings.walk-broken (stepped (c .before .before .before .before .before .before .before .before)) (c .before .before .before .before .before .before .before .if3 .taken) (c .before .before .before .before .before .nested .ensures) (c .if4 .taken)
 
 pub +nested+walk-spec : {M : Type 1} → statement M
-+nested+walk-spec = close μ-nested μ-walk (λ t. nested-lts.spec (
-  find-group-reads.Asked,
-  find-group-reads.Learnt,
-  refusal-of-reads.Asked,
-  refusal-of-reads.Learnt,
-  walk-below t,
-  walk.Post,
-)
-    (nested-at t)
-    nested.Post
-    (nested-find-group-requires t)
++nested+walk-spec =
+    close μ-nested μ-walk
+    (λ t. nested-lts.spec (nested-calls t) (nested-at t) nested.Post
+    (nested-returns t)
+    (nested-find-requires t)
     (nested-enum-known-located t)
     (nested-enum-told t)
     (nested-refusal-of-requires t)
-    (nested-returns t)
-    (nested-add-walk t)
-    (nested-sub-walk t)
-    (nested-part-walk-start t)
-    (nested-part-walk-end t)
+    (nested-returns-2 t)
+    (nested-part-requires t)
     (nested-walk-requires t)
     (nested-same-length t)
-    (nested-returns-2 t))
-    λ t. walk-lts.spec (
-      read16-reads.Asked,
-      read16-reads.Learnt,
-      put-pair-reads.Asked,
-      put-pair-reads.Learnt,
-      nested-below t,
-      nested.Post,
-    )
-    (walk-at t)
-    walk.Post
-    walk-Inv-members
-    walk-μ-members
+    (nested-returns-3 t))
+    (λ t. walk-lts.spec (walk-calls t) (walk-at t) walk.Post Inv-members μ-members
     (walk-read16-requires t)
     (walk-members-holds t)
     (walk-mul-read16 t)
@@ -568,6 +250,4 @@ pub +nested+walk-spec : {M : Type 1} → statement M
     (walk-same-length-2 t)
     (walk-returns-2 t)
     (walk-same-length-3 t)
-    (walk-returns-3 t)
-    (walk-same-length-4 t)
-    (walk-returns-4 t)
+    (walk-returns-3 t))

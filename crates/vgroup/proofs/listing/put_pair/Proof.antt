@@ -1,8 +1,8 @@
 -- `vgroup::listing::put_pair` meets its contract. Assumes nothing.
 use native.Mathlib.Omega.{arith}
 use native.Mathlib.Numerals.{add-one}
-use mathlib.Core.Path.{sym, ap, _∙_}
-use lib.ListN.{set, length-set}
+use mathlib.Core.Path.{sym}
+use lib.ListN.{length-set}
 use lib.Seq.{set-out}
 use Rattle.wire.specs.Numbers.{put}
 use Rattle.wire.proofs.Numbers.{put-past}

@@ -2,7 +2,7 @@
 use native.Mathlib.Omega.{arith}
 use mathlib.Core.Path.{sym, _∙_}
 use borrow.Author.Needs.{needs}
-use Rattle.vhead.proofs.Headings
+use Rattle.vhead.proofs.Heads
 use Rattle.vhead.proofs.head.field.Statement.{statement}
 use Rattle.vhead.proofs.head.field.Tie as tie
 
@@ -22,7 +22,7 @@ skip-names-requires : tie.Need-skip-names-requires
 skip-names-requires c κs = search needs
 
 field-at-requires : tie.Need-field-at-requires
-field-at-requires c κs = (c .before .read16 .ensures .is ∙ sym (Headings.fields-count _), omega (arith, c .before .before .before .fits .i))
+field-at-requires c κs = (c .before .read16 .ensures .is ∙ sym (Heads.fields-count _), omega (arith, c .before .before .before .fits .i))
 
 add-t6 : tie.Need-add-t6
 add-t6 c = search needs
@@ -31,7 +31,7 @@ read16-requires-2 : tie.Need-read16-requires-2
 read16-requires-2 c κs = search needs
 
 returns : tie.Need-returns
-returns c = (Headings.named-field _ _ _ _ _ _ (c .before .before .before .read16 .ensures .is) (c .before .field-at .ensures .0) (c .before .before .skip-names .ensures .0) (c .read162 .ensures .is), c .before .field-at .ensures .1, c .read162 .ensures .small)
+returns c = (Heads.named-field _ _ _ _ _ _ (c .before .before .before .read16 .ensures .is) (c .before .field-at .ensures .0) (c .before .before .skip-names .ensures .0) (c .read162 .ensures .is), c .before .field-at .ensures .1, c .read162 .ensures .small)
 
 pub field-spec : {M : Type 1} → statement M
 field-spec =

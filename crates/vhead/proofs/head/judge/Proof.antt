@@ -3,7 +3,7 @@ use Prim.Native.Nat.{_*_}
 use mathlib.Core.Path.{_≡_, ap, _∙_}
 use mathlib.Core.Bool.{_&&_}
 use lib.Dec.{leb, eqb}
-use Rattle.vhead.specs.Types.{widthOf}
+use Rattle.records.specs.Types.{widthOf}
 use borrow.Author.Needs.{needs}
 use Rattle.vhead.proofs.head.judge.Statement.{statement}
 use Rattle.vhead.proofs.head.judge.Tie as tie

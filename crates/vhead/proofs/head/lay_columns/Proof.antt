@@ -1,6 +1,6 @@
 -- `vhead::head::lay_columns` meets its contract. Assumes nothing.
 use borrow.Author.Needs.{needs}
-use Rattle.vhead.proofs.HeadPacks
+use Rattle.vhead.proofs.HeadsPacked
 use Rattle.vhead.proofs.head.lay_columns.Statement.{statement}
 use Rattle.vhead.proofs.head.lay_columns.Tie as tie
 
@@ -38,7 +38,7 @@ same-length : tie.Need-same-length
 same-length c = search needs
 
 returns : tie.Need-returns
-returns c = HeadPacks.laid-columns _ _ _ _ _ _ _ (c .before .before .before .before .before .before .before .before .before .before .before .before .before .before .lay-column .ensures) (c .before .before .before .before .before .before .before .before .before .before .lay-column2 .ensures) (c .before .before .before .before .before .before .lay-column3 .ensures) (c .before .before .lay-column4 .ensures)
+returns c = HeadsPacked.laid-columns _ _ _ _ _ _ _ (c .before .before .before .before .before .before .before .before .before .before .before .before .before .before .lay-column .ensures) (c .before .before .before .before .before .before .before .before .before .before .lay-column2 .ensures) (c .before .before .before .before .before .before .lay-column3 .ensures) (c .before .before .lay-column4 .ensures)
 
 pub lay-columns-spec : {M : Type 1} → statement M
 lay-columns-spec =

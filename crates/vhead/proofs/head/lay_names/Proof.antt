@@ -3,22 +3,22 @@ use Prim.Native.Nat.{_+_, _-_, _≤_}
 use native.Mathlib.Omega.{arith}
 use lib.ListN.{length, getD}
 use borrow.Author.Needs.{needs}
-use Rattle.vhead.proofs.HeadPacks
+use Rattle.vhead.proofs.HeadsPacked
 use Rattle.vhead.proofs.head.lay_names.Statement.{statement}
 use Rattle.vhead.proofs.head.lay_names.Tie as tie
 
 abbrev Inv-loop : tie.InvT-loop
-Inv-loop out₀ at lengths names from₀ i₀ out from i = HeadPacks.LayingNames lengths names out₀ at out from i
+Inv-loop out₀ at lengths names from₀ i₀ out from i = HeadsPacked.LayingNames lengths names out₀ at out from i
 
 abbrev μ-loop : tie.MeasureT-loop
 μ-loop out₀ at lengths names from₀ i₀ out from i = length lengths - i
 
 -- the name stands among the names
 inside : (c : tie.In-loop Inv-loop μ-loop) → let a = c .before .before .before .before .before .args in c .before .loop .from + getD (a .lengths .now) (c .before .loop .i) 0 ≤ length (a .names .now)
-inside c = HeadPacks.name-inside _ _ _ _ _ _ _ (c .before .loop .inv) (c .loop-test .taken) (c .before .before .before .before .before .pre .0)
+inside c = HeadsPacked.name-inside _ _ _ _ _ _ _ (c .before .loop .inv) (c .loop-test .taken) (c .before .before .before .before .before .pre .0)
 
 loop-holds : tie.Need-loop-holds Inv-loop μ-loop
-loop-holds c = HeadPacks.names-start _ _ _ _
+loop-holds c = HeadsPacked.names-start _ _ _ _
 
 mul-n : tie.Need-mul-n Inv-loop μ-loop
 mul-n c = omega arith
@@ -44,17 +44,8 @@ write16-requires c κs = search needs
 add-write-bytes : tie.Need-add-write-bytes Inv-loop μ-loop
 add-write-bytes c = omega (arith, inside (c .before .before .before .before .before .before), c .before .before .before .before .before .before .before .before .before .before .before .pre .1)
 
-add-write-bytes-2 : tie.Need-add-write-bytes-2 Inv-loop μ-loop
-add-write-bytes-2 c = omega (arith, inside (c .before .before .before .before .before .before))
-
-sub-write-bytes : tie.Need-sub-write-bytes Inv-loop μ-loop
-sub-write-bytes c = omega arith
-
-part-write-bytes-start : tie.Need-part-write-bytes-start Inv-loop μ-loop
-part-write-bytes-start c = omega arith
-
-part-write-bytes-end : tie.Need-part-write-bytes-end Inv-loop μ-loop
-part-write-bytes-end c = omega (arith, inside (c .before .before .before .before .before .before))
+part-requires : tie.Need-part-requires Inv-loop μ-loop
+part-requires c κs = search needs
 
 write-bytes-requires : tie.Need-write-bytes-requires Inv-loop μ-loop
 write-bytes-requires c κs = search needs
@@ -70,14 +61,14 @@ loop-less c = omega arith
 
 loop-again : tie.Need-loop-again Inv-loop μ-loop
 loop-again c =
-    HeadPacks.names-step _ _ _ _ _ _ _ (c .before .before .before .before .before .before .before .before .before .before .before .loop .inv) (c .before .before .before .before .before .before .before .before .before .before .loop-test .taken) (c .before .before .before .before .before .before .before .before .before .before .before .before .before .before .before .pre .0) _ _
-    (c .before .before .before .before .before .before .before .write16 .ensures) (c .before .before .write-bytes .ensures)
+    HeadsPacked.names-step _ _ _ _ _ _ _ (c .before .before .before .before .before .before .before .before .before .before .before .loop .inv) (c .before .before .before .before .before .before .before .before .before .before .loop-test .taken) (c .before .before .before .before .before .before .before .before .before .before .before .before .before .before .before .pre .0) _ _ _
+    (c .before .before .before .before .before .before .before .write16 .ensures) (c .before .before .before .part .ensures) (c .before .before .write-bytes .ensures)
 
 same-length : tie.Need-same-length Inv-loop μ-loop
 same-length c = c .before .loop .inv .long
 
 returns : tie.Need-returns Inv-loop μ-loop
-returns c = HeadPacks.names-done _ _ _ _ _ _ _ (c .before .loop .inv) (c .loop-test .left)
+returns c = HeadsPacked.names-done _ _ _ _ _ _ _ (c .before .loop .inv) (c .loop-test .left)
 
 pub lay-names-spec : {M : Type 1} → statement M
 lay-names-spec =
@@ -94,10 +85,7 @@ lay-names-spec =
     add-to-2
     write16-requires
     add-write-bytes
-    add-write-bytes-2
-    sub-write-bytes
-    part-write-bytes-start
-    part-write-bytes-end
+    part-requires
     write-bytes-requires
     add-from
     add-i

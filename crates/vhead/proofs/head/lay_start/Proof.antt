@@ -1,6 +1,6 @@
 -- `vhead::head::lay_start` meets its contract. Assumes nothing.
 use borrow.Author.Needs.{needs}
-use Rattle.vhead.proofs.HeadPacks
+use Rattle.vhead.proofs.HeadsPacked
 use Rattle.vhead.proofs.head.lay_start.Statement.{statement}
 use Rattle.vhead.proofs.head.lay_start.Tie as tie
 
@@ -29,7 +29,7 @@ same-length : tie.Need-same-length
 same-length c = search needs
 
 returns : tie.Need-returns
-returns c = HeadPacks.laid-start _ _ _ _ _ _ _ (c .before .before .before .before .before .before .before .before .before .before .before .before .before .before .before .before .write16 .ensures) (c .before .before .before .before .before .before .before .before .before .before .before .write32 .ensures) (c .before .before .before .before .before .before .write162 .ensures) (c .before .before .write163 .ensures)
+returns c = HeadsPacked.laid-start _ _ _ _ _ _ _ (c .before .before .before .before .before .before .before .before .before .before .before .before .before .before .before .before .write16 .ensures) (c .before .before .before .before .before .before .before .before .before .before .before .write32 .ensures) (c .before .before .before .before .before .before .write162 .ensures) (c .before .before .write163 .ensures)
 
 pub lay-start-spec : {M : Type 1} → statement M
 lay-start-spec =

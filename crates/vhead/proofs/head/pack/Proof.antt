@@ -6,23 +6,23 @@ use lib.ListN.{length}
 use borrow.Author.Needs.{needs}
 use Rattle.records.proofs.Packings
 use Rattle.vhead.specs.Heads.{headBytes}
-use Rattle.vhead.proofs.HeadPacks
+use Rattle.vhead.proofs.HeadsPacked
 use Rattle.vhead.proofs.head.pack.Statement.{statement}
 use Rattle.vhead.proofs.head.pack.Tie as tie
 
 -- the parts break no rule
 sound : (c : tie.Else1) → let a = c .before .before .before .before .before .before .before .before .before .args in
-    HeadPacks.PackSound (a .b) (a .rows .now) (a .lengths .now) (length (a .names .now)) (length (a .name .now)) (length (a .class .now)) (a .x .version)
-sound c = HeadPacks.pack-passed _ _ _ _ _ _ _ (sym (c .before .pack-fault .ensures) ∙ c .if1 .left)
+    HeadsPacked.PackSound (a .b) (a .rows .now) (a .lengths .now) (length (a .names .now)) (length (a .name .now)) (length (a .class .now)) (a .x .version)
+sound c = HeadsPacked.pack-passed _ _ _ _ _ _ _ (sym (c .before .pack-fault .ensures) ∙ c .if1 .left)
 
 -- the names are no long list
 low : (c : tie.Else1) → let a = c .before .before .before .before .before .before .before .before .before .args in length (a .names .now) ≤ 16777216
-low c = let s = sound c in omega (arith, HeadPacks.total-low (c .before .before .before .before .before .before .before .before .before .args .lengths .now) (λ i. c .before .before .before .before .before .before .before .shared-slice-known2 .given i .fits))
+low c = let s = sound c in omega (arith, HeadsPacked.total-low (c .before .before .before .before .before .before .before .before .before .args .lengths .now) (λ i. c .before .before .before .before .before .before .before .shared-slice-known2 .given i .fits))
 
 long : (c : tie.Else1) → let a = c .before .before .before .before .before .before .before .before .before .args in
     length (headBytes (a .b) (a .rows .now) (a .lengths .now) (a .names .now) (a .name .now) (a .class .now) (a .x))
     ≡ 22 + 10 * length (a .lengths .now) + length (a .names .now) + length (a .name .now) + length (a .class .now)
-long c = HeadPacks.length-head _ _ _ _ _ _ _ (λ i. c .before .before .before .before .before .before .shared-slice-known3 .given i .fits) (λ i. c .before .before .before .before .before .shared-slice-known4 .given i .fits) (λ i. c .before .before .before .before .shared-slice-known5 .given i .fits) (sound c .sum)
+long c = HeadsPacked.length-head _ _ _ _ _ _ _ (λ i. c .before .before .before .before .before .before .shared-slice-known3 .given i .fits) (λ i. c .before .before .before .before .before .shared-slice-known4 .given i .fits) (λ i. c .before .before .before .before .shared-slice-known5 .given i .fits) (sound c .sum)
 
 -- the buffer has room
 room : (c : tie.Else2) → let a = c .before .before .before .before .before .before .before .before .before .before .args in
@@ -92,7 +92,7 @@ same-length c = search needs
 returns-3 : tie.Need-returns-3
 returns-3 c =
     Packings.packs-granted _ _ _ (sym (c .before .before .before .before .before .before .before .before .before .before .before .before .before .before .before .before .before .before .pack-fault .ensures) ∙ c .before .before .before .before .before .before .before .before .before .before .before .before .before .before .before .before .before .if1 .left) (omega (arith, long (c .before .before .before .before .before .before .before .before .before .before .before .before .before .before .before .before .before), c .before .before .before .before .before .before .before .before .before .before .before .before .before .before .before .before .if2 .left)) _ (sym (long (c .before .before .before .before .before .before .before .before .before .before .before .before .before .before .before .before .before))) _
-    (HeadPacks.laid-head _ _ _ _ _ _ _ (λ i. c .before .before .before .before .before .before .before .before .before .before .before .before .before .before .before .before .before .before .before .before .before .before .before .shared-slice-known3 .given i .fits) (λ i. c .before .before .before .before .before .before .before .before .before .before .before .before .before .before .before .before .before .before .before .before .before .before .shared-slice-known4 .given i .fits) (λ i. c .before .before .before .before .before .before .before .before .before .before .before .before .before .before .before .before .before .before .before .before .before .shared-slice-known5 .given i .fits) (sound (c .before .before .before .before .before .before .before .before .before .before .before .before .before .before .before .before .before) .sum) _ _ _ _ _
+    (HeadsPacked.laid-head _ _ _ _ _ _ _ (λ i. c .before .before .before .before .before .before .before .before .before .before .before .before .before .before .before .before .before .before .before .before .before .before .before .shared-slice-known3 .given i .fits) (λ i. c .before .before .before .before .before .before .before .before .before .before .before .before .before .before .before .before .before .before .before .before .before .before .shared-slice-known4 .given i .fits) (λ i. c .before .before .before .before .before .before .before .before .before .before .before .before .before .before .before .before .before .before .before .before .before .shared-slice-known5 .given i .fits) (sound (c .before .before .before .before .before .before .before .before .before .before .before .before .before .before .before .before .before) .sum) _ _ _ _ _
     (c .before .before .before .before .before .before .before .before .before .before .before .before .before .before .lay-start .ensures) (c .before .before .before .before .before .before .before .before .before .before .lay-columns .ensures) (c .before .before .before .before .before .before .lay-names .ensures) (c .before .before .lay .ensures))
 
 pub pack-spec : {M : Type 1} → statement M

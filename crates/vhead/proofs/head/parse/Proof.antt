@@ -1,7 +1,6 @@
 -- `vhead::head::parse` meets its contract. Assumes nothing.
-use native.Mathlib.Omega.{arith}
 use borrow.Author.Needs.{needs}
-use Rattle.vhead.proofs.Headings
+use Rattle.vhead.proofs.Heads
 use Rattle.vhead.proofs.head.parse.Statement.{statement}
 use Rattle.vhead.proofs.head.parse.Tie as tie
 
@@ -51,7 +50,7 @@ parse-requires : tie.Need-parse-requires
 parse-requires c κs = search needs
 
 returns : tie.Need-returns
-returns c = Headings.head-reads _ _ _ _ _ _ (c .before .before .before .before .read16 .ensures) (c .before .before .before .read162 .ensures) (c .before .before .read32 .ensures) (c .before .read163 .ensures) (c .parse .ensures)
+returns c = Heads.head-reads _ _ _ _ _ _ (c .before .before .before .before .read16 .ensures) (c .before .before .before .read162 .ensures) (c .before .before .read32 .ensures) (c .before .read163 .ensures) (c .parse .ensures)
 
 pub parse-spec : {M : Type 1} → statement M
 parse-spec =

@@ -4,7 +4,7 @@ use native.Mathlib.Omega.{arith}
 use mathlib.Core.Path.{_≡_}
 use lib.ListN.{length, drop}
 use Rattle.vhead.specs.Heads.{total}
-use Rattle.vhead.proofs.Judging
+use Rattle.vhead.proofs.HeadsJudged
 use Rattle.vhead.proofs.head.total.Statement.{statement}
 use Rattle.vhead.proofs.head.total.Tie as tie
 
@@ -36,10 +36,10 @@ loop-less : tie.Need-loop-less Inv-loop μ-loop
 loop-less c = omega arith
 
 loop-again : tie.Need-loop-again Inv-loop μ-loop
-loop-again c = omega (arith, c .shared-slice-known .given (c .before .before .loop .i), Judging.total-next (c .before .before .before .args .lengths .now) (c .before .before .loop .i) (c .before .loop-test .taken))
+loop-again c = omega (arith, c .shared-slice-known .given (c .before .before .loop .i), HeadsJudged.total-next (c .before .before .before .args .lengths .now) (c .before .before .loop .i) (c .before .loop-test .taken))
 
 returns : tie.Need-returns Inv-loop μ-loop
-returns c = omega (arith, Judging.total-none (c .before .before .args .lengths .now) (c .before .loop .i) (c .loop-test .left))
+returns c = omega (arith, HeadsJudged.total-none (c .before .before .args .lengths .now) (c .before .loop .i) (c .loop-test .left))
 
 pub total-spec : {M : Type 1} → statement M
 total-spec =

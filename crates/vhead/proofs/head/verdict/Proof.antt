@@ -1,7 +1,7 @@
 -- `vhead::head::verdict` meets its contract. Assumes nothing.
 use mathlib.Core.Path.{sym, _∙_}
 use borrow.Author.Tests.{not-true, not-false}
-use Rattle.directory.proofs.Search.{must-holds, must-fails}
+use Rattle.answer.proofs.Search.{must-holds, must-fails}
 use Rattle.vhead.specs.Steps.{verdict}
 use borrow.Author.Needs.{needs}
 use Rattle.vhead.proofs.head.verdict.Statement.{statement}

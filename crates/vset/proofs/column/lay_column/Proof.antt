@@ -2,22 +2,22 @@
 use Prim.Native.Nat.{_*_, _-_, _≤_}
 use native.Mathlib.Omega.{arith}
 use borrow.Author.Needs.{needs}
-use Rattle.vset.proofs.Rows
+use Rattle.vset.proofs.Columns
 use Rattle.vset.proofs.column.lay_column.Statement.{statement}
 use Rattle.vset.proofs.column.lay_column.Tie as tie
 
 abbrev Inv-loop : tie.InvT-loop
-Inv-loop out₀ at table first step count i₀ out i = Rows.Laying out₀ at table first step count out i
+Inv-loop out₀ at table first step count i₀ out i = Columns.Laying out₀ at table first step count out i
 
 abbrev μ-loop : tie.MeasureT-loop
 μ-loop out₀ at table first step count i₀ out i = count - i
 
 -- the steps up to an entry
 low : (c : tie.In-loop Inv-loop μ-loop) → c .before .before .before .before .args .step * c .before .loop .i ≤ 4294967296
-low c = Rows.product-low _ _ (omega (arith, c .before .before .before .before .fits .step)) (omega (arith, c .loop-test .taken, c .before .before .before .before .fits .count))
+low c = Columns.product-low _ _ (omega (arith, c .before .before .before .before .fits .step)) (omega (arith, c .loop-test .taken, c .before .before .before .before .fits .count))
 
 loop-holds : tie.Need-loop-holds Inv-loop μ-loop
-loop-holds c = Rows.laying-start _ _ _ _ _ _
+loop-holds c = Columns.laying-start _ _ _ _ _ _
 
 mul-entry : tie.Need-mul-entry Inv-loop μ-loop
 mul-entry c = omega (arith, low c)
@@ -44,13 +44,13 @@ loop-less : tie.Need-loop-less Inv-loop μ-loop
 loop-less c = omega arith
 
 loop-again : tie.Need-loop-again Inv-loop μ-loop
-loop-again c = rw (c .before .before .write16 .ensures, c .before .before .before .before .entry .ensures) (Rows.laying-next _ _ _ _ _ _ _ _ (c .before .before .before .before .before .before .loop .inv) (c .before .before .before .before .before .loop-test .taken))
+loop-again c = rw (c .before .before .write16 .ensures, c .before .before .before .before .entry .ensures) (Columns.laying-next _ _ _ _ _ _ _ _ (c .before .before .before .before .before .before .loop .inv) (c .before .before .before .before .before .loop-test .taken))
 
 same-length : tie.Need-same-length Inv-loop μ-loop
 same-length c = c .before .loop .inv .long
 
 returns : tie.Need-returns Inv-loop μ-loop
-returns c = Rows.laying-done _ _ _ _ _ _ _ _ (c .before .loop .inv) (c .loop-test .left)
+returns c = Columns.laying-done _ _ _ _ _ _ _ _ (c .before .loop .inv) (c .loop-test .left)
 
 pub lay-column-spec : {M : Type 1} → statement M
 lay-column-spec =

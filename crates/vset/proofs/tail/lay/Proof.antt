@@ -2,7 +2,7 @@
 use mathlib.Core.Path.{sym}
 use borrow.Author.Needs.{needs}
 use Rattle.wire.proofs.Numbers.{put-past}
-use Rattle.vset.proofs.Tailings
+use Rattle.vset.proofs.Tails
 use Rattle.vset.proofs.tail.lay.Statement.{statement}
 use Rattle.vset.proofs.tail.lay.Tie as tie
 
@@ -23,7 +23,7 @@ same-length c = search needs
 
 returns-2 : tie.Need-returns-2
 returns-2 c = let a = c .before .before .before .before .before .before .before .before .before .args in
-    Tailings.laid-name _ (a .name .now) (a .class .now) _ (a .x) (λ i. c .before .before .before .before .before .before .before .shared-slice-known .given i .fits) (λ i. c .before .before .before .before .before .before .shared-slice-known2 .given i .fits) _ (c .before .before .before .lay-text .ensures) (c .if2 .taken)
+    Tails.laid-name _ (a .name .now) (a .class .now) _ (a .x) (λ i. c .before .before .before .before .before .before .before .shared-slice-known .given i .fits) (λ i. c .before .before .before .before .before .before .shared-slice-known2 .given i .fits) _ (c .before .before .before .lay-text .ensures) (c .if2 .taken)
 
 lay-text-requires-2 : tie.Need-lay-text-requires-2
 lay-text-requires-2 c κs = search needs
@@ -39,7 +39,7 @@ same-length-2 c = search needs
 
 returns-3 : tie.Need-returns-3
 returns-3 c = let a = c .before .before .before .before .before .before .before .before .before .before .before .before .before .before .args in
-    Tailings.laid-class _ (a .name .now) (a .class .now) _ (a .x) (λ i. c .before .before .before .before .before .before .before .before .before .before .before .before .shared-slice-known .given i .fits) (λ i. c .before .before .before .before .before .before .before .before .before .before .before .shared-slice-known2 .given i .fits) _ (c .before .before .before .before .before .before .before .before .lay-text .ensures) _ (c .before .before .before .lay-text2 .ensures) (c .if3 .taken)
+    Tails.laid-class _ (a .name .now) (a .class .now) _ (a .x) (λ i. c .before .before .before .before .before .before .before .before .before .before .before .before .shared-slice-known .given i .fits) (λ i. c .before .before .before .before .before .before .before .before .before .before .before .shared-slice-known2 .given i .fits) _ (c .before .before .before .before .before .before .before .before .lay-text .ensures) _ (c .before .before .before .lay-text2 .ensures) (c .if3 .taken)
 
 lay-ending-requires : tie.Need-lay-ending-requires
 lay-ending-requires c κs = search needs
@@ -49,7 +49,7 @@ same-length-3 c = search needs
 
 returns-4 : tie.Need-returns-4
 returns-4 c = let a = c .before .before .before .before .before .before .before .before .before .before .before .before .before .before .before .before .before .before .args in
-    Tailings.laid-tail _ (a .name .now) (a .class .now) _ (a .x) (λ i. c .before .before .before .before .before .before .before .before .before .before .before .before .before .before .before .before .shared-slice-known .given i .fits) (λ i. c .before .before .before .before .before .before .before .before .before .before .before .before .before .before .before .shared-slice-known2 .given i .fits) _ _ _ (c .before .before .before .before .before .before .before .before .before .before .before .before .lay-text .ensures) (c .before .before .before .before .before .before .before .lay-text2 .ensures) (c .before .before .lay-ending .ensures)
+    Tails.laid-tail _ (a .name .now) (a .class .now) _ (a .x) (λ i. c .before .before .before .before .before .before .before .before .before .before .before .before .before .before .before .before .shared-slice-known .given i .fits) (λ i. c .before .before .before .before .before .before .before .before .before .before .before .before .before .before .before .shared-slice-known2 .given i .fits) _ _ _ (c .before .before .before .before .before .before .before .before .before .before .before .before .lay-text .ensures) (c .before .before .before .before .before .before .before .lay-text2 .ensures) (c .before .before .lay-ending .ensures)
 
 pub lay-spec : {M : Type 1} → statement M
 lay-spec =

@@ -1,6 +1,6 @@
 -- `vset::tail::lay_ending` meets its contract. Assumes nothing.
 use borrow.Author.Needs.{needs}
-use Rattle.vset.proofs.Tailings
+use Rattle.vset.proofs.Tails
 use Rattle.vset.proofs.tail.lay_ending.Statement.{statement}
 use Rattle.vset.proofs.tail.lay_ending.Tie as tie
 
@@ -41,7 +41,7 @@ same-length : tie.Need-same-length
 same-length c = search needs
 
 returns : tie.Need-returns
-returns c = Tailings.laid-ending _ _ _ _ _ _ _ (c .before .before .before .before .before .before .before .before .before .before .before .before .before .before .before .before .before .write16 .ensures) (c .before .before .before .before .before .before .before .before .before .before .before .before .write162 .ensures) (c .before .before .before .before .before .before .before .write163 .ensures) (c .before .before .write164 .ensures)
+returns c = Tails.laid-ending _ _ _ _ _ _ _ (c .before .before .before .before .before .before .before .before .before .before .before .before .before .before .before .before .before .write16 .ensures) (c .before .before .before .before .before .before .before .before .before .before .before .before .write162 .ensures) (c .before .before .before .before .before .before .before .write163 .ensures) (c .before .before .write164 .ensures)
 
 pub lay-ending-spec : {M : Type 1} → statement M
 lay-ending-spec =

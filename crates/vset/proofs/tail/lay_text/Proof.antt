@@ -1,6 +1,6 @@
 -- `vset::tail::lay_text` meets its contract. Assumes nothing.
 use borrow.Author.Needs.{needs}
-use Rattle.vset.proofs.Tailings
+use Rattle.vset.proofs.Tails
 use Rattle.vset.proofs.tail.lay_text.Statement.{statement}
 use Rattle.vset.proofs.tail.lay_text.Tie as tie
 
@@ -17,7 +17,7 @@ same-length : tie.Need-same-length
 same-length c = search needs
 
 returns : tie.Need-returns
-returns c = Tailings.laid-text _ _ _ _ _ (c .before .before .before .before .before .before .write16 .ensures) (c .before .before .write-bytes .ensures)
+returns c = Tails.laid-text _ _ _ _ _ (c .before .before .before .before .before .before .write16 .ensures) (c .before .before .write-bytes .ensures)
 
 pub lay-text-spec : {M : Type 1} → statement M
 lay-text-spec =

@@ -1,9 +1,9 @@
 -- `vset::tail::parse` meets its contract. Assumes nothing.
 use mathlib.Core.Path.{ap, _∙_}
-use Rattle.records.specs.Layout.{read}
+use Rattle.wire.specs.Layouts.{read}
 use Rattle.vset.specs.Tails.{tail}
 use borrow.Author.Needs.{needs}
-use Rattle.vset.proofs.Tailings
+use Rattle.vset.proofs.Tails
 use Rattle.vset.proofs.tail.parse.Statement.{statement}
 use Rattle.vset.proofs.tail.parse.Tie as tie
 
@@ -57,7 +57,7 @@ add-t17 c = search needs
 
 returns : tie.Need-returns
 returns c =
-    Tailings.tail-reads _ _ _ _ _ _ _ _ (c .before .before .before .before .before .read16 .ensures) (c .before .before .before .before .read162 .ensures) (c .before .before .before .read163 .ensures) (c .before .before .read164 .ensures) (c .before .read165 .ensures) (c .read166 .ensures)
+    Tails.tail-reads _ _ _ _ _ _ _ _ (c .before .before .before .before .before .read16 .ensures) (c .before .before .before .before .read162 .ensures) (c .before .before .before .read163 .ensures) (c .before .before .read164 .ensures) (c .before .read165 .ensures) (c .read166 .ensures)
     ∙ ap (read (tail (λ t. t)) (c .before .before .before .before .before .before .before .before .args .part .now)) (c .before .before .before .before .before .before .skip-names .ensures .0)
 
 pub parse-spec : {M : Type 1} → statement M

@@ -6,7 +6,7 @@ use mathlib.Core.List.{List}
 use borrow.Author.Needs.{needs}
 use Rattle.wire.specs.Numbers.{be}
 use Rattle.vset.specs.Tails.{namesEnd}
-use Rattle.vset.proofs.Tailings
+use Rattle.vset.proofs.Tails
 use Rattle.vset.proofs.tail.skip_names.Statement.{statement}
 use Rattle.vset.proofs.tail.skip_names.Tie as tie
 
@@ -14,7 +14,7 @@ use Rattle.vset.proofs.tail.skip_names.Tie as tie
 next : (e : List ℕ) (n i end k : ℕ) → k ≡ be 2 e end → i < n → namesEnd e (n - (i + 1)) (end + (2 + k)) ≡ namesEnd e (n - i) end
 next e n i end k q h =
     let a : end + (2 + k) ≡ end + 2 + be 2 e end = omega arith in
-    ap (namesEnd e (n - (i + 1))) a ∙ sym (Tailings.names-next e n i end h)
+    ap (namesEnd e (n - (i + 1))) a ∙ sym (Tails.names-next e n i end h)
 
 abbrev Inv-loop : tie.InvT-loop
 Inv-loop part at count end₀ i₀ end i = (i ≤ count) × (namesEnd part (count - i) end ≡ namesEnd part count at) × (end ≤ at + 65537 * i)
@@ -48,7 +48,7 @@ loop-again c = let l = c .before .loop-test .taken in (
 )
 
 returns : tie.Need-returns Inv-loop μ-loop
-returns c = (Tailings.names-done _ _ _ _ (c .loop-test .left) ∙ c .before .loop .inv .1, omega arith)
+returns c = (Tails.names-done _ _ _ _ (c .loop-test .left) ∙ c .before .loop .inv .1, omega arith)
 
 pub skip-names-spec : {M : Type 1} → statement M
 skip-names-spec =

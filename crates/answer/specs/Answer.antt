@@ -1,0 +1,33 @@
+-- What a call answers, in document 01's numbers. Assumes nothing.
+use Prim.Native.Nat.{ℕ, zero, suc}
+use mathlib.Core.List.{List}
+use mathlib.Core.Bool.{Bool}
+use lib.ListN.{replicate}
+use Rattle.answer.specs.Refusals.{SMALL}
+use Rattle.answer.specs.Search.{must}
+
+pub record Answer : Type 0 where
+  pub number : ℕ
+  pub place : ℕ
+  pub values : List ℕ
+
+-- granted: number and place are 0
+abbrev pub grant : List ℕ → Answer
+grant values = record { number = 0; place = 0; values = values }
+
+-- refused, with values that the refusal carries
+abbrev pub refuseWith : List ℕ → ℕ → ℕ → Answer
+refuseWith values number place = record { number = number; place = place; values = values }
+
+-- refused, by a call that answers k values: each of them is 0
+abbrev pub refuse : ℕ → ℕ → ℕ → Answer
+refuse k = refuseWith (replicate k 0)
+
+-- a refusal, by a call of k values, with the number of the first rule broken and its place; where that is 0, the answer
+unfoldable pub unless : ℕ → ℕ → ℕ → Answer → Answer
+unless k zero place answer = answer
+unless k (suc number) place answer = refuse k (suc number) place
+
+-- 14 comes last, where what is lent is too short
+unfoldable pub inRoom : ℕ → Bool → Answer → Answer
+inRoom k enough answer = unless k (must enough SMALL 0) 0 answer

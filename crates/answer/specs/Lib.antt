@@ -1,0 +1,4 @@
+pub mod Refusals
+pub mod Search
+pub mod Answer
+pub mod Lent

@@ -1,0 +1,120 @@
+-- What opening's answer tells a caller: a refusal to pass on, or the blocks, among which lookups then search. Assumes nothing.
+use Prim.Native.Nat.{ℕ, suc, _-_}
+use native.Mathlib.Nat.{suc-ne-zero}
+use native.Mathlib.Omega.{arith}
+use mathlib.Core.Path.{_≡_, sym, ap, _∙_}
+use mathlib.Core.Logic.{inl, inr}
+use mathlib.Core.List.{List, [], _∷_}
+use lib.ListN.{length, getD}
+use Rattle.answer.specs.Search.{Hit, first}
+use Rattle.answer.specs.Lent.{laidOver, Does}
+use Rattle.answer.proofs.Lent.{refuses}
+use Rattle.answer.specs.Answer.{Answer, grant, refuse}
+use Rattle.answer.specs.declared.Refusal.{Refusal}
+use Rattle.answer.proofs.Tests.{zero?}
+use Rattle.answer.proofs.Answer.{unless-passes, unless-stops, unless-passed}
+use Rattle.directory.specs.Blocks.{blocksOf}
+use Rattle.directory.specs.Slots.{slotsOf}
+use Rattle.directory.specs.Opening.{openedNumbers, refusalOf, openOf, opened}
+use Rattle.directory.specs.Links.{lastOf, blockAfter}
+use Rattle.directory.specs.Lookup.{has, find, findIn}
+use Rattle.directory.specs.Rules.{Linked}
+use Rattle.directory.specs.Steps.Opens.{Opens}
+use Rattle.directory.specs.declared.Counts.{Counts}
+use Rattle.directory.specs.declared.Opened.{Opened}
+use Rattle.directory.specs.declared.Opened.the-variants.{Accepted, Refused}
+use Rattle.directory.proofs.Links.{linked-slots, linked-chain}
+use Rattle.directory.proofs.Rules.{kept-opens, opens-kept}
+
+-- a call goes on exactly with an image that opens
+pub opened-goes : (k : ℕ) (s : List ℕ) (answer : Answer) → openOf s .number ≡ 0 → opened k s answer ≡ answer
+unfolding opened
+opened-goes k s answer h = unless-passes k _ _ answer h
+
+pub opened-stops : (k : ℕ) (s : List ℕ) (answer : Answer) → (openOf s .number ≡ 0 → ⊥)
+    → opened k s answer ≡ refuse k (openOf s .number) (openOf s .place)
+unfolding opened
+opened-stops k s answer h = unless-stops k _ _ answer h
+
+-- a call that is not refused opened the image
+pub opened-passed : (k : ℕ) (s : List ℕ) (answer : Answer) → opened k s answer .number ≡ 0 → openOf s .number ≡ 0
+unfolding opened
+opened-passed k s answer e = unless-passed k _ _ answer e
+
+-- no refusal has the number 0
+pub refused-number : (s : List ℕ) (n p : ℕ) → openOf s ≡ refuse 3 n p → (m : ℕ) × (n ≡ suc m)
+refused-number s n p e =
+    elim (zero? n) [
+      | inr m ↦ m
+      | inl z ↦
+          let k = opens-kept s (ap (λ a. a .number) e ∙ z) in
+          let q : _≡_ {A = ℕ} 0 (length (blocksOf s)) = ap (λ a. getD (a .values) 0 0) (sym e ∙ kept-opens s (blocksOf s) k) in
+          absurd (none (blocksOf s) (k .linked) q)
+    ]
+  where
+    none : (bs : List ℕ) → Linked s bs → 0 ≡ length bs → ⊥
+    none [] l q = l
+    none (b ∷ bs) l q = omega arith
+
+-- ---- The blocks that opening counts
+
+module _ (s : List ℕ) (b n l : ℕ) (e : openOf s ≡ grant (b ∷ n ∷ l ∷ [])) where
+  counted : b ≡ length (blocksOf s)
+  counted = ap (λ a. getD (a .values) 0 0) (sym e ∙ kept-opens s (blocksOf s) (opens-kept s (ap (λ a. a .number) e)))
+
+  pub opened-last : blockAfter s (b - 1) 4 ≡ lastOf 4 (blocksOf s)
+  opened-last = let k = opens-kept s (ap (λ a. a .number) e) in rw counted (linked-chain s (blocksOf s) (k .first) (k .linked) .1)
+
+  pub opened-with : Opens s b
+  unfolding slotsOf
+  opened-with =
+      let k = opens-kept s (ap (λ a. a .number) e) in
+      record {
+        sound = ap (λ a. a .number) e;
+        slots = rw counted (linked-slots s (blocksOf s) (k .first) (k .linked));
+        chain = rw counted (linked-chain s (blocksOf s) (k .first) (k .linked) .0);
+      }
+
+-- the lookup among them is the image's
+pub opened-find : (s : List ℕ) (blocks tag ref : ℕ) → Opens s blocks → findIn s blocks tag ref ≡ find s tag ref
+unfolding find
+opened-find s blocks tag ref o = ap (first (has s tag ref)) (o .slots)
+
+-- a call goes on with what that lookup finds
+pub opened-answer : (k : ℕ) (s : List ℕ) (blocks tag ref : ℕ) → Opens s blocks → (answer : Hit → Answer) → answer (findIn s blocks tag ref) ≡ opened k s (answer (find s tag ref))
+opened-answer k s blocks tag ref o answer = ap answer (opened-find s blocks tag ref o) ∙ sym (opened-goes k s (answer (find s tag ref)) (o .sound))
+
+pub opened-does : {A : Type 0} (k : ℕ) (s : List ℕ) (blocks tag ref : ℕ) → Opens s blocks → (answer : Hit → Answer) (given : Hit → List A) (before after : List A) (numbers : Answer)
+    → Does (answer (findIn s blocks tag ref)) (given (findIn s blocks tag ref)) before after numbers
+    → Does (opened k s (answer (find s tag ref))) (given (find s tag ref)) before after numbers
+opened-does k s blocks tag ref o answer given before after numbers d =
+    let g = ap given (opened-find s blocks tag ref o) in
+    let a = opened-answer k s blocks tag ref o answer in
+    record { answers = d .answers ∙ a; leaves = d .leaves ∙ ap (λ x. laidOver x (given (findIn s blocks tag ref)) before) a ∙ ap (λ x. laidOver (opened k s (answer (find s tag ref))) x before) g }
+
+-- ---- What a caller learns from opening's answer
+
+module _ (s : List ℕ) (o : Opened) (answers : openedNumbers o ≡ openOf s) where
+  pub accepted-with : (c : Counts) → o ≡ Accepted c → Opens s (c .blocks)
+  accepted-with c e = opened-with s _ _ _ (sym answers ∙ ap openedNumbers e)
+
+  pub accepted-is : (c : Counts) → o ≡ Accepted c → openOf s ≡ grant (c .blocks ∷ c .slots ∷ c .live ∷ [])
+  accepted-is c e = sym answers ∙ ap openedNumbers e
+
+  pub refused-positive : (r : Refusal) → o ≡ Refused r → refusalOf o .number ≡ 0 → ⊥
+  refused-positive r e z =
+      let m = refused-number s (r .number) (r .place) (sym answers ∙ ap openedNumbers e) in
+      suc-ne-zero (m .0) (sym (m .1) ∙ sym (ap (λ x. refusalOf x .number) e) ∙ z)
+
+  -- the refusal that the caller passes on
+  pub refused-is : (k : ℕ) (answer : Answer) (r : Refusal) → o ≡ Refused r → opened k s answer ≡ refuse k (refusalOf o .number) (refusalOf o .place)
+  refused-is k answer r e =
+      let q : openOf s ≡ refuse 3 (r .number) (r .place) = sym answers ∙ ap openedNumbers e in
+      let m = refused-number s (r .number) (r .place) q in
+      let z : openOf s .number ≡ 0 → ⊥ = λ z. suc-ne-zero (m .0) (sym (m .1) ∙ sym (ap (λ a. a .number) q) ∙ z) in
+      opened-stops k s answer z ∙ ap (λ a. refuse k (a .number) (a .place)) q ∙ ap (λ x. refuse k (refusalOf x .number) (refusalOf x .place)) (sym e)
+
+  pub unopened-does : {A : Type 0} (k : ℕ) (answer : Answer) (given lent : List A) (r : Refusal) → o ≡ Refused r → (x : Refusal) → x ≡ refusalOf o
+      → Does (opened k s answer) given lent lent (refuse k (x .number) (x .place))
+  unopened-does k answer given lent r e x is =
+      rw is (refuses (opened k s answer) given lent k (refusalOf o .number) (refusalOf o .place) (refused-is k answer r e) (refused-positive r e))

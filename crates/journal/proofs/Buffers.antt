@@ -1,0 +1,117 @@
+-- The laws of calls on a buffer: what each leaves, from its outcome, and what the edits come to, from what they meet in the image.
+-- Assumes nothing.
+use Prim.Native.Nat.{ℕ, zero, suc, _<_, _≤_}
+use mathlib.Core.Path.{_≡_, refl, sym, ap, _∙_}
+use mathlib.Core.List.{List, [], _++_}
+use native.Mathlib.Omega.{arith}
+use lib.ListN.{length, take, drop}
+use lib.Seq.{length-take-le}
+use borrow.Author.Tests.{le-leb, lt-leb}
+use Rattle.answer.specs.Refusals.{TOO-LONG, PRESENT, ABSENT}
+use Rattle.answer.specs.Answer.{refuse}
+use Rattle.answer.specs.Lent.{laidOver}
+use Rattle.answer.specs.Search.{hit, miss}
+use Rattle.answer.specs.declared.Refusal.{Refusal}
+use Rattle.directory.specs.Limits.{most-bytes, free-tag}
+use Rattle.directory.proofs.Rules.{opens-kept}
+use Rattle.directory.specs.Opening.{openedNumbers, refusalOf, openOf}
+use Rattle.directory.specs.declared.Opened.{Opened}
+use Rattle.directory.specs.declared.Opened.the-variants.{Accepted, Refused as Closed}
+use Rattle.directory.specs.Lookup.{find}
+use Rattle.journal.specs.Outcomes.{Outcome, granted, refused, openedTo, editedNumbers}
+use Rattle.journal.specs.Edits.{tagged, freeSlot, dataSlot, dataOffset, slotEdit, fitted, addOf, replaceOf, removeOf}
+use Rattle.journal.specs.Undos.{undoOf}
+use Rattle.journal.specs.Buffers.{imageIn, addIn, replaceIn, removeIn, undoIn, Leaves}
+use Rattle.journal.specs.Steps.Changes.{OpensIn, Editable, slotIn, newIn}
+use Rattle.journal.specs.declared.Edited.{Edited}
+use Rattle.journal.specs.declared.Edited.the-variants.{Granted, Refused}
+use Rattle.journal.proofs.Outcomes.{opened-stops, tagged-good}
+
+-- ---- What a call leaves, from its outcome
+
+pub laid-kept : (number place : ℕ) (l : List ℕ) → laidOver (refuse 1 number place) [] l ≡ l
+unfolding laidOver
+laid-kept zero place l = refl
+laid-kept (suc number) place l = refl
+
+pub refuses : {o : Outcome} (l : List ℕ) (r : Refusal) → o ≡ refused (r .number) (r .place) → Leaves o l l (Refused r)
+refuses l r e = rw e (record { answers = refl; leaves = sym (laid-kept (r .number) (r .place) l) })
+
+pub grants : {o : Outcome} (l after file : List ℕ) (size : ℕ) → o ≡ granted file → size ≡ length file → after ≡ file ++ drop (length file) l
+    → Leaves o l after (Granted size)
+unfolding laidOver
+grants l after file size e n a = rw e (record { answers = ap (λ k. editedNumbers (Granted k)) n; leaves = a })
+
+-- for another outcome that is equal
+pub leaves-same : {o p : Outcome} (l after : List ℕ) (r : Edited) → o ≡ p → Leaves p l after r → Leaves o l after r
+leaves-same l after r e d = rw e d
+
+-- ---- The image in the buffer
+
+pub inside : (l : List ℕ) (n : ℕ) (o : Outcome) → n ≤ length l → imageIn l n o ≡ o
+unfolding imageIn
+inside l n o h = rw (imageIn, le-leb _ _ h)
+
+pub image-short : (l : List ℕ) (n : ℕ) → n ≤ length l → openOf (take n l) .number ≡ 0 → n ≤ most-bytes
+image-short l n fits opened = omega (arith, opens-kept (take n l) opened .short, length-take-le n l fits)
+
+pub undo-here : (l : List ℕ) (n : ℕ) → n ≤ length l → undoIn l n ≡ undoOf (take n l)
+unfolding undoIn
+undo-here l n fits = inside l n _ fits
+
+-- ---- Opening it
+
+module _ (l : List ℕ) (n : ℕ) where
+  pub opens-outside : length l < n → OpensIn l n (Closed (record { number = TOO-LONG; place = 0 }))
+  unfolding imageIn
+  opens-outside h rest = rw (imageIn, lt-leb _ _ h)
+
+  pub opens-inside : n ≤ length l → (o : Opened) → openedNumbers o ≡ openOf (take n l) → OpensIn l n o
+  opens-inside fits (Accepted c) e = (fits, sym e)
+  opens-inside fits (Closed r) e = λ rest. inside l n _ fits ∙ opened-stops (take n l) (Closed r) e r refl rest
+
+  -- the refusal that a call passes on
+  pub closed-in : (o : Opened) → OpensIn l n o → (r : Refusal) → o ≡ Closed r → (rest : Outcome)
+      → imageIn l n (openedTo (take n l) rest) ≡ refused (refusalOf o .number) (refusalOf o .place)
+  closed-in (Accepted c) h r e rest = let z : _≡_ {A = ℕ} 0 1 = cc in absurd (omega arith)
+  closed-in (Closed q) h r e rest = h rest
+
+-- ---- Edits
+
+-- a refusal whatever comes after
+pub edit-stops : (l : List ℕ) (n tag : ℕ) (rest : Outcome) (r : Refusal)
+    → ((rest : Outcome) → imageIn l n (tagged (take n l) tag rest) ≡ refused (r .number) (r .place))
+    → Leaves (imageIn l n (tagged (take n l) tag rest)) l l (Refused r)
+edit-stops l n tag rest r stop = refuses l r (stop rest)
+
+module _ (l : List ℕ) (n tag : ℕ) (m : Editable l n tag) (ref : ℕ) where
+  here : (rest : Outcome) → imageIn l n (tagged (take n l) tag rest) ≡ rest
+  here rest = inside l n _ (m .fits) ∙ tagged-good (take n l) tag (m .opens) (m .good) rest
+
+  module _ (p : ℕ) (there : find (take n l) tag ref ≡ hit p) where
+    pub add-present : (content : List ℕ) → Leaves (addIn l n tag ref content) l l (Refused (record { number = PRESENT; place = 0 }))
+    unfolding addIn addOf
+    add-present content = refuses l _ (here _ ∙ rw there)
+
+    pub replace-there : (content after : List ℕ) (r : Edited) → Leaves (slotIn l n p tag ref content) l after r → Leaves (replaceIn l n tag ref content) l after r
+    unfolding replaceIn replaceOf
+    replace-there content after r d =
+        leaves-same {p = slotIn l n p tag ref content} l after r
+        (here _ ∙ rw there (ap (λ k. fitted (length l) (slotEdit (take n l) p (dataSlot tag ref content k) content)) (length-take-le n l (m .fits)))) d
+
+    pub remove-there : (after : List ℕ) (r : Edited) → Leaves (slotIn l n p free-tag 0 []) l after r → Leaves (removeIn l n tag ref) l after r
+    unfolding removeIn removeOf freeSlot dataSlot dataOffset
+    remove-there after r d = leaves-same {p = slotIn l n p free-tag 0 []} l after r (here _ ∙ rw there) d
+
+  module _ (none : find (take n l) tag ref ≡ miss) where
+    pub add-absent : (content after : List ℕ) (r : Edited) → Leaves (newIn l n tag ref content) l after r → Leaves (addIn l n tag ref content) l after r
+    unfolding addIn addOf
+    add-absent content after r d = leaves-same {p = newIn l n tag ref content} l after r (here _ ∙ rw none) d
+
+    pub replace-absent : (content : List ℕ) → Leaves (replaceIn l n tag ref content) l l (Refused (record { number = ABSENT; place = 0 }))
+    unfolding replaceIn replaceOf
+    replace-absent content = refuses l _ (here _ ∙ rw none)
+
+    pub remove-absent : Leaves (removeIn l n tag ref) l l (Refused (record { number = ABSENT; place = 0 }))
+    unfolding removeIn removeOf
+    remove-absent = refuses l _ (here _ ∙ rw none)

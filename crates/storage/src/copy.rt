@@ -1,0 +1,85 @@
+// A copy of an element's bytes, from plain storage or from linked blocks.
+use super::element;
+use super::element::Element;
+use super::linked;
+use answer::Refusal;
+use answer::refusals::ABSENT;
+use answer::refusals::SMALL;
+use directory::Opened;
+ghost use Prim.Native.Nat.{_≤_};
+ghost use lib.ListN.{length};
+ghost use Rattle.answer.specs.Lent.{Does};
+ghost use Rattle.directory.specs.Slots.{contentAt};
+ghost use Rattle.directory.specs.Steps.Cursors.{most-place};
+ghost use Rattle.directory.specs.Steps.Opens.{Opens};
+ghost use Rattle.storage.specs.Copies.{copiedNumbers, inBlocks, copyAt, copyOf, elementBytes};
+
+// How many bytes were copied.
+pub enum Copied {
+    Bytes(usize),
+    Refused(Refusal),
+}
+
+// Copies the bytes of the element in linked blocks of the slot at p. All is judged first, by a walk that has no buffer to write to.
+fn copy_blocks(image: &[u8], blocks: usize, p: usize, out: &mut [u8]) -> Copied
+    requires { ⌜ Opens (now image) blocks × (p ≤ most-place) ⌝ }
+    ensures { λ r. ⌜ (let x = inBlocks (now (image .entry)) (contentAt (now (image .entry)) p) in
+        Does (copyAt (length (now (out .entry))) p x) (x .bytes) (now (out .entry)) (now (out .exit)) (copiedNumbers r)) ⌝ }
+{
+    let record = wire::part(image, element::start(image, p), element::size(image, p));
+    let broken = linked::record_fault(record);
+    if broken != 0 {
+        return Copied::Refused(Refusal {
+            number: broken,
+            place: p,
+        });
+    }
+    let d = linked::read_description(record);
+    if out.len() < d.length {
+        return Copied::Refused(Refusal {
+            number: SMALL,
+            place: 0,
+        });
+    }
+    let fault = linked::follow(image, blocks, d, &mut out[..0]);
+    if fault != 0 {
+        return Copied::Refused(Refusal {
+            number: fault,
+            place: p,
+        });
+    }
+    linked::follow(image, blocks, d, out);
+    Copied::Bytes(d.length)
+}
+
+// Copies the element's bytes to the front of a lent buffer. A call that is refused writes nothing.
+pub fn copy(image: &[u8], tag: u16, reference: u16, out: &mut [u8]) -> Copied
+    ensures { λ r. ⌜ Does (copyOf (now (image .entry)) tag reference (length (now (out .entry)))) (elementBytes (now (image .entry)) tag reference)
+        (now (out .entry)) (now (out .exit)) (copiedNumbers r) ⌝ }
+{
+    let opened = directory::open(image);
+    let Opened::Accepted(counts) = opened else {
+        return Copied::Refused(directory::refusal_of(opened));
+    };
+    match element::find(image, counts.blocks, tag, reference) {
+        Element::Absent => Copied::Refused(Refusal {
+            number: ABSENT,
+            place: 0,
+        }),
+        Element::Extended(slot) => copy_blocks(image, counts.blocks, slot, out),
+        Element::Plain {
+            slot: _,
+            offset,
+            length,
+        } => {
+            if out.len() < length {
+                return Copied::Refused(Refusal {
+                    number: SMALL,
+                    place: 0,
+                });
+            }
+            wire::write_bytes(out, 0, wire::part(image, offset, length));
+            Copied::Bytes(length)
+        }
+    }
+}

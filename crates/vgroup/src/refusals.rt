@@ -1,2 +1,0 @@
-// The refusal number of a listing, by its name.
-pub const DEEP: usize = 22;
