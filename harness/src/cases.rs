@@ -1,12 +1,16 @@
 //! The marked cases of the written rules. In cases 1 to 11 both the library and the reader must give the numbers written
 //! there.
 
+pub mod changes;
 pub mod edits;
+mod pieces;
 pub mod records;
+pub mod refusals;
 
 use crate::compare::directory::expected_open;
 use crate::ffi::{self, Opened};
 use crate::reader::{self, FIRST_BYTES};
+use pieces::NEXT;
 
 /// The file A of the marked cases.
 const A: [u8; 37] = [
@@ -17,7 +21,6 @@ const A: [u8; 37] = [
     0x68, 0x75, 0x62,
 ];
 
-const NEXT: usize = 6;
 const FIRST_OFFSET: usize = 14;
 const FIRST_LENGTH: usize = 18;
 const SECOND_SLOT: usize = 22;

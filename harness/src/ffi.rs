@@ -7,6 +7,8 @@ use std::fmt::Debug;
 pub trait Answer: Debug + PartialEq {
     fn refused(number: u64, place: u64) -> Self;
     fn number(&self) -> u64;
+    /// Number, place and values, in order.
+    fn numbers(&self) -> Vec<u64>;
 }
 
 /// Declares an answer with its values in order.
@@ -28,6 +30,10 @@ macro_rules! answer {
 
             fn number(&self) -> u64 {
                 self.number
+            }
+
+            fn numbers(&self) -> Vec<u64> {
+                vec![self.number, self.place, $(self.$value),*]
             }
         }
     };

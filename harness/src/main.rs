@@ -144,7 +144,10 @@ fn run_all(options: &Options, random: &mut Random, tally: &mut Tally) -> Result<
         compare(&case.image, Pairs::All, random, tally).map_err(|difference| difference.to_string())?;
     }
     println!("{} marked cases", cases.len() + cases::edits::check(tally)?);
+    println!("{} cases of replacing, removing and empty data", cases::changes::check(tally)?);
     println!("{} records with known numbers", cases::records::check(random, tally)?);
+    let [refusals, listed] = cases::refusals::check()?;
+    println!("{refusals} named cases of refusals, for {listed} rules alone or two at once");
 
     println!("{} real files", files::compare_all(random, tally)?);
     report(tally)

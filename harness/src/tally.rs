@@ -35,7 +35,7 @@ pub enum Call {
     PackVdata,
 }
 
-const CALLS: [Call; 23] = [
+pub const CALLS: [Call; 23] = [
     Call::Open,
     Call::List,
     Call::Find,
@@ -231,7 +231,7 @@ impl Call {
     }
 
     /// Whether some input makes the call answer this number.
-    fn can_answer(self, number: u64) -> bool {
+    pub fn can_answer(self, number: u64) -> bool {
         let others: &[u64] = match self {
             Call::Open => &[],
             Call::List => &[SMALL],

@@ -1,5 +1,6 @@
 //! The marked cases 12 to 15: two adds to file A and three undos, with the bytes of each file.
 
+use super::pieces::{FREE_SLOT, NEXT};
 use super::{A, SECOND_SLOT};
 use crate::compare::edits::{first_difference, Lending};
 use crate::editor::{Edit, Kind, Request, NO_EDIT, NO_ROOM};
@@ -17,12 +18,10 @@ const TRAILER_12: [u8; 32] = [
     0x42, 0x41, 0x43, 0x4b,
 ];
 
-/// Case 13: the next field of the first block, the head and the first slot of the new one, a free slot, and the trailer.
-const NEXT: usize = 6;
+/// Case 13: the next field of the first block, the head and the first slot of the new one, and the trailer.
 const NEXT_13: [u8; 4] = [0x00, 0x00, 0x00, 0x46];
 const HEAD_13: [u8; 6] = [0x00, 0x10, 0x00, 0x00, 0x00, 0x00];
 const SLOT_13: [u8; 12] = [0x9c, 0x40, 0x00, 0x06, 0x00, 0x00, 0x01, 0x0c, 0x00, 0x00, 0x00, 0x01];
-const FREE_SLOT: [u8; 12] = [0x00, 0x01, 0x00, 0x00, 0x00, 0x00, 0x00, 0x00, 0x00, 0x00, 0x00, 0x00];
 const TRAILER_13: [u8; 32] = [
     0x00, 0x00, 0x00, 0x06, // place altered
     0x00, 0x00, 0x00, 0x04, // bytes altered
@@ -39,67 +38,77 @@ const PAST_FILE: u8 = 0xee;
 /// Holds the cases against library, editor and history; answers how many there are.
 pub fn check(tally: &mut Tally) -> Result<usize, String> {
     let (a, second, third) = (A.to_vec(), file_12(), file_13());
-    let mut roomy = Cases { lending: lent(ROOMY), tally };
-    roomy.step(12, &add(5, 0x2a), granted(70), &second, 1)?;
-    roomy.step(13, &add(6, 0x2b), granted(301), &third, 2)?;
-    roomy.step(14, &Request::Undo, granted(70), &second, 1)?;
-    roomy.step(14, &Request::Undo, granted(37), &a, 0)?;
-    roomy.step(15, &Request::Undo, refused(NO_EDIT), &a, 0)?;
+    let mut roomy = Steps::new(&A, ROOMY, tally);
+    roomy.step("marked case 12", &add(5, 0x2a), granted(70), &second, 1)?;
+    roomy.step("marked case 13", &add(6, 0x2b), granted(301), &third, 2)?;
+    roomy.step("marked case 14", &Request::Undo, granted(70), &second, 1)?;
+    roomy.step("marked case 14", &Request::Undo, granted(37), &a, 0)?;
+    roomy.step("marked case 15", &Request::Undo, refused(NO_EDIT), &a, 0)?;
 
-    let mut small = Cases { lending: lent(ONE_TOO_SMALL), tally };
-    small.step(12, &add(5, 0x2a), granted(70), &second, 1)?;
-    small.step(13, &add(6, 0x2b), refused(NO_ROOM), &second, 1)?;
-    small.step(14, &Request::Undo, granted(37), &a, 0)?;
+    let mut small = Steps::new(&A, ONE_TOO_SMALL, tally);
+    small.step("marked case 12", &add(5, 0x2a), granted(70), &second, 1)?;
+    small.step("marked case 13", &add(6, 0x2b), refused(NO_ROOM), &second, 1)?;
+    small.step("marked case 14", &Request::Undo, granted(37), &a, 0)?;
     Ok(4)
 }
 
-struct Cases<'a> {
+/// Calls one after the other on a file at the front of a buffer.
+pub struct Steps<'a> {
     lending: Lending,
     tally: &'a mut Tally,
 }
 
-impl Cases<'_> {
+impl Steps<'_> {
+    pub fn new<'a>(file: &[u8], capacity: usize, tally: &'a mut Tally) -> Steps<'a> {
+        let lending = Lending::new(file, &vec![PAST_FILE; capacity - file.len()], 3);
+        Steps { lending, tally }
+    }
+
     /// One call: its answer, the file after it, and how many edits the history then holds.
-    fn step(&mut self, case: u32, request: &Request, answer: Edited, file: &[u8], edits: usize) -> Result<(), String> {
+    pub fn step(
+        &mut self,
+        case: &str,
+        request: &Request,
+        answer: Edited,
+        file: &[u8],
+        edits: usize,
+    ) -> Result<(), String> {
         let library = self.lending.call(request, self.tally);
-        let library = library.map_err(|difference| format!("marked case {case}\n{difference}"))?;
+        let library = library.map_err(|difference| format!("{case}\n{difference}"))?;
         if library != answer {
-            return Err(format!("marked case {case}\npaper   {answer:?}\nlibrary {library:?}"));
+            return Err(format!("{case}\npaper   {answer:?}\nlibrary {library:?}"));
         }
         if let Some(difference) = first_difference(self.lending.file(), file) {
-            return Err(format!("marked case {case}: {difference}"));
+            return Err(format!("{case}: {difference}"));
         }
         match self.lending.history().edits() {
             held if held == edits => Ok(()),
-            held => Err(format!("marked case {case}: the history holds {held} edits, not {edits}")),
+            held => Err(format!("{case}: the history holds {held} edits, not {edits}")),
         }
     }
-}
-
-/// File A at the front of a buffer.
-fn lent(capacity: usize) -> Lending {
-    Lending::new(&A, &vec![PAST_FILE; capacity - A.len()], 3)
 }
 
 fn add(reference: u16, byte: u8) -> Request {
     Request::Edit(Edit { kind: Kind::Add, tag: 40000, reference, data: vec![byte] })
 }
 
-fn granted(length: u64) -> Edited {
+pub fn granted(length: u64) -> Edited {
     Edited { number: 0, place: 0, length }
 }
 
-fn refused(number: u64) -> Edited {
+pub fn refused(number: u64) -> Edited {
     Edited { number, place: 0, length: 0 }
 }
 
-fn file_12() -> Vec<u8> {
+/// The file after case 12.
+pub fn file_12() -> Vec<u8> {
     let mut file = A.to_vec();
     file[SECOND_SLOT..SECOND_SLOT + 12].copy_from_slice(&SLOT_12);
     [&file[..], &[0x2a], &TRAILER_12].concat()
 }
 
-fn file_13() -> Vec<u8> {
+/// The file after case 13.
+pub fn file_13() -> Vec<u8> {
     let mut file = file_12();
     file[NEXT..NEXT + 4].copy_from_slice(&NEXT_13);
     [&file[..], &HEAD_13, &SLOT_13, &FREE_SLOT.repeat(15), &[0x2b], &TRAILER_13].concat()

@@ -1,11 +1,12 @@
 //! Records whose numbers are known beforehand: those of real files, from the program that wrote them, and one written by hand.
 //! The library must give these numbers; that the reader gives the same ones is compared on the same files.
 
+use super::pieces::file;
 use crate::compare::compare_records;
 use crate::ffi::records::{self as library, Field};
 use crate::files;
 use crate::random::Random;
-use crate::reader::{FIRST_BYTES, SMALL};
+use crate::reader::SMALL;
 use crate::records::{DEEP, NO_VALUE};
 use crate::tally::Tally;
 use crate::vset::{DATA, GROUP, HEAD};
@@ -189,28 +190,13 @@ fn extremes() -> Case {
     let mut data = vec![0x80, 0x80, 0, 0x80, 0, 0, 0];
     data.extend([0x7f80_0001_u32, 0xffc0_0000].map(u32::to_be_bytes).concat());
     data.extend(0xfff0_0000_0000_0001_u64.to_be_bytes());
-    let image = file(&[(HEAD, 1, head), (DATA, 1, data)]);
+    let image = file(&[(HEAD, 1, head), (DATA, 1, data)]).bytes();
     for (field, component, index) in [(0, 0, 0), (1, 0, 1), (2, 0, 2), (3, 0, 3), (3, 1, 4), (4, 0, 5)] {
         let a = library::read_value(&image, 1, [0, field, component]);
         let (kind, bits) = values[index];
         same("extreme value", [a.number, a.place, a.kind, a.bits], [0, 0, kind, bits])?;
     }
     Ok(image)
-}
-
-/// A file of one block with these elements: tag, reference and bytes of each.
-fn file(elements: &[(u16, u16, Vec<u8>)]) -> Vec<u8> {
-    let mut image = FIRST_BYTES.to_vec();
-    image.extend((elements.len() as u16).to_be_bytes());
-    image.extend([0; 4]);
-    let mut offset = image.len() + 12 * elements.len();
-    for (tag, reference, bytes) in elements {
-        image.extend([tag.to_be_bytes(), reference.to_be_bytes()].concat());
-        image.extend([offset, bytes.len()].map(|number| (number as u32).to_be_bytes()).concat());
-        offset += bytes.len();
-    }
-    elements.iter().for_each(|(_, _, bytes)| image.extend(bytes));
-    image
 }
 
 /// Five bytes at a place of the image, spaces where there are fewer.

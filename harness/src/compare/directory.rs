@@ -71,7 +71,7 @@ fn compare_list(trial: &mut Trial, room: usize) -> Outcome {
 }
 
 /// What listing must answer, by the reader, and what it must write to the front of the list.
-fn expected_list(directory: &Result<Directory, Refusal>, room: usize) -> (Listed, Vec<u32>) {
+pub fn expected_list(directory: &Result<Directory, Refusal>, room: usize) -> (Listed, Vec<u32>) {
     let directory = match directory {
         Ok(directory) => directory,
         Err(refusal) => return (Listed::refused(refusal.number, refusal.place), Vec::new()),
@@ -90,7 +90,8 @@ fn compare_find(trial: &mut Trial, tag: u16, reference: u16) -> Outcome {
     trial.same(Call::Find, &[tag.into(), reference.into()], library, reader)
 }
 
-fn expected_find(directory: &Result<Directory, Refusal>, tag: u16, reference: u16) -> Found {
+/// What a lookup must answer, by the reader.
+pub fn expected_find(directory: &Result<Directory, Refusal>, tag: u16, reference: u16) -> Found {
     let found = match directory {
         Ok(directory) => directory.find(tag, reference),
         Err(refusal) => Err(*refusal),

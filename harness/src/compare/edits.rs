@@ -149,7 +149,7 @@ impl Request {
         }
     }
 
-    fn data(&self) -> &[u8] {
+    pub fn data(&self) -> &[u8] {
         match self {
             Request::Undo => &[],
             Request::Edit(edit) => &edit.data,

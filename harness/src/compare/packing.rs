@@ -43,7 +43,7 @@ fn compare_in(record: &Record, room: usize, tally: &mut Tally) -> Outcome {
     let (kept, mut out) = (record.clone(), Table::new(room));
     let library = library::pack(record, out.lend());
     let packing = packing::pack(record, room);
-    let expected = answer(&packing, |bytes: &Vec<u8>| Packed { length: bytes.len() as u64, ..Packed::default() });
+    let expected = answer(&packing, |bytes| packed(bytes));
     if library != expected {
         return Err(differ(record, room, format!("{library:?}"), format!("{expected:?}")));
     }
@@ -56,6 +56,10 @@ fn compare_in(record: &Record, room: usize, tally: &mut Tally) -> Outcome {
     tally.count(record.call(), expected.number());
     tally.count_cause(record.call(), cause_of(&packing));
     Ok(())
+}
+
+pub fn packed(bytes: &[u8]) -> Packed {
+    Packed { length: bytes.len() as u64, ..Packed::default() }
 }
 
 fn differ(record: &Record, room: usize, library: String, expected: String) -> Difference {

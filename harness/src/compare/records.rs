@@ -6,7 +6,7 @@ use crate::ffi::Answer;
 use crate::lent::Table;
 use crate::packing::Record;
 use crate::reader::{Directory, EXTENDED};
-use crate::records::{self, Cause, Found, Reading, ARRAY, DIMENSIONS, NUMBER_TYPE};
+use crate::records::{self, Array, Cause, Dimension, Found, NumberType, Reading, ARRAY, DIMENSIONS, NUMBER_TYPE};
 use crate::tally::Call;
 use crate::vset::{DATA, GROUP, HEAD};
 use std::fmt::Debug;
@@ -76,14 +76,18 @@ fn compare_record(trial: &mut Trial, tag: u16, reference: u16, most_values: usiz
 fn compare_number_type(trial: &mut Trial, reference: u16) -> Outcome {
     let library = library::read_number_type(trial.lent.image(), reference);
     let reading = records::read_number_type(trial.lent.image(), &trial.directory, reference);
-    trial.judge(Call::ReadNumberType, &[reference.into()], library, &reading, |found| NumberTypeRead {
+    trial.judge(Call::ReadNumberType, &[reference.into()], library, &reading, number_type_read)?;
+    pack_again(trial, reading, Record::NumberType)
+}
+
+pub fn number_type_read(found: &Found<NumberType>) -> NumberTypeRead {
+    NumberTypeRead {
         version: found.record.version.into(),
         kind: found.record.kind.into(),
         width: found.record.width.into(),
         class: found.record.class.into(),
         ..NumberTypeRead::default()
-    })?;
-    pack_again(trial, reading, Record::NumberType)
+    }
 }
 
 /// A dimension by its tag or the extended one.
@@ -91,7 +95,12 @@ fn compare_dimension(trial: &mut Trial, tag: u16, reference: u16) -> Outcome {
     let tag = if tag < EXTENDED && trial.random.once_in(3) { tag + EXTENDED } else { tag };
     let library = library::read_dimension(trial.lent.image(), tag, reference);
     let reading = records::read_dimension(trial.lent.image(), &trial.directory, tag, reference);
-    trial.judge(Call::ReadDimension, &[tag.into(), reference.into()], library, &reading, |found| DimensionRead {
+    trial.judge(Call::ReadDimension, &[tag.into(), reference.into()], library, &reading, dimension_read)?;
+    pack_again(trial, reading, Record::Dimension)
+}
+
+pub fn dimension_read(found: &Found<Dimension>) -> DimensionRead {
+    DimensionRead {
         x: found.record.x.into(),
         y: found.record.y.into(),
         type_tag: found.record.type_tag.into(),
@@ -101,8 +110,7 @@ fn compare_dimension(trial: &mut Trial, tag: u16, reference: u16) -> Outcome {
         compression_tag: found.record.compression_tag.into(),
         compression_ref: found.record.compression_ref.into(),
         ..DimensionRead::default()
-    })?;
-    pack_again(trial, reading, Record::Dimension)
+    }
 }
 
 fn compare_array(trial: &mut Trial, reference: u16) -> Outcome {
@@ -119,13 +127,14 @@ fn compare_array_in(trial: &mut Trial, reference: u16, rooms: [usize; 2]) -> Out
     let (mut sizes, mut pairs) = (Table::new(rooms[0]), Table::new(rooms[1]));
     let library = library::read_array(trial.lent.image(), reference, sizes.lend(), pairs.lend());
     let reading = records::read_array(trial.lent.image(), &trial.directory, reference, rooms);
-    trial.judge(Call::ReadArray, &arguments, library, &reading, |found| ArrayRead {
-        rank: found.record.sizes.len() as u64,
-        ..ArrayRead::default()
-    })?;
+    trial.judge(Call::ReadArray, &arguments, library, &reading, array_read)?;
     let written = reading.as_ref().ok().map(|(found, _)| &found.record);
     holds(Call::ReadArray, &arguments, &sizes, written.map_or(&[], |array| &array.sizes))?;
     holds(Call::ReadArray, &arguments, &pairs, written.map_or(&[], |array| &array.pairs))
+}
+
+pub fn array_read(found: &Found<Array>) -> ArrayRead {
+    ArrayRead { rank: found.record.sizes.len() as u64, ..ArrayRead::default() }
 }
 
 /// Rooms for a table: exactly enough, one entry too little, more than enough, and none.

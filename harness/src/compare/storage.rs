@@ -75,9 +75,11 @@ fn compare_view(trial: &mut Trial, tag: u16, reference: u16) -> Outcome {
     let library = ffi::view(trial.lent.image(), tag, reference);
     let reading = storage::view(&trial.directory, tag, reference);
     trial.tally.count_way(Call::View, way_of(&reading));
-    let expected =
-        answer(reading, |part| Viewed { offset: part.start, length: part.end - part.start, ..Viewed::default() });
-    trial.same(Call::View, &[tag.into(), reference.into()], library, expected)
+    trial.same(Call::View, &[tag.into(), reference.into()], library, answer(reading, viewed))
+}
+
+pub fn viewed(part: Range<u64>) -> Viewed {
+    Viewed { offset: part.start, length: part.end - part.start, ..Viewed::default() }
 }
 
 fn compare_copy(trial: &mut Trial, tag: u16, reference: u16, room: usize) -> Outcome {
@@ -91,12 +93,15 @@ fn compare_copy(trial: &mut Trial, tag: u16, reference: u16, room: usize) -> Out
     if let Ok((bytes, _)) = &reading {
         expected[..bytes.len()].copy_from_slice(bytes);
     }
-    let copied = answer(reading, |bytes| Copied { length: bytes.len() as u64, ..Copied::default() });
-    trial.same(Call::Copy, &arguments, library, copied)?;
+    trial.same(Call::Copy, &arguments, library, answer(reading, copied))?;
     match first_difference(&memory, &expected) {
         Some(difference) => differ(Call::Copy, &arguments, difference, "other bytes in the room".into()),
         None => Ok(()),
     }
+}
+
+pub fn copied(bytes: Vec<u8>) -> Copied {
+    Copied { length: bytes.len() as u64, ..Copied::default() }
 }
 
 /// Two images lent at once.
@@ -145,12 +150,6 @@ fn compare_choose(two: &Two, tag: u16, reference: u16, tally: &mut Tally) -> Out
     let library = ffi::choose(two.current.image(), two.fallback.image(), tag, reference);
     let reading = storage::choose(current, fallback, tag, reference);
     tally.count_way(Call::Choose, way_of(&reading));
-    let chosen = |(which, part): (u64, Range<u64>)| Chosen {
-        which,
-        offset: part.start,
-        length: part.end - part.start,
-        ..Chosen::default()
-    };
     let expected = answer(reading, chosen);
     if library != expected {
         return differ(Call::Choose, &arguments, format!("{library:?}"), format!("{expected:?}"));
@@ -162,8 +161,12 @@ fn compare_choose(two: &Two, tag: u16, reference: u16, tally: &mut Tally) -> Out
     Ok(())
 }
 
+pub fn chosen((which, part): (u64, Range<u64>)) -> Chosen {
+    Chosen { which, offset: part.start, length: part.end - part.start, ..Chosen::default() }
+}
+
 /// What the library must answer.
-fn answer<T, A: Answer>(reading: Reading<T>, granted: impl FnOnce(T) -> A) -> A {
+pub fn answer<T, A: Answer>(reading: Reading<T>, granted: impl FnOnce(T) -> A) -> A {
     match reading {
         Ok((value, _)) => granted(value),
         Err(refused) => A::refused(refused.refusal.number, refused.refusal.place),

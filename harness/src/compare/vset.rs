@@ -8,7 +8,7 @@ use crate::packing::Record;
 use crate::random::Random;
 use crate::records::Found;
 use crate::tally::Call;
-use crate::vset::{self, Group, Vdata, FIELD};
+use crate::vset::{self, Group, Value, Vdata, FIELD};
 
 /// How many values of a Vdata are read, each of them where there are no more.
 pub const FEW_VALUES: usize = 8;
@@ -41,7 +41,7 @@ fn compare_group_in(trial: &mut Trial, reference: u16, room: usize) -> Outcome {
     holds(Call::ReadGroup, &arguments, &members, written)
 }
 
-fn group_read(found: &Found<Group>) -> GroupRead {
+pub fn group_read(found: &Found<Group>) -> GroupRead {
     let Group { members, tail } = &found.record;
     GroupRead {
         members: members.len() as u64 / 2,
@@ -72,11 +72,12 @@ fn compare_list(trial: &mut Trial, reference: u16, room: usize) -> Outcome {
     let mut list = Table::new(room);
     let library = library::list_group(trial.lent.image(), reference, list.lend());
     let reading = vset::list_group(trial.lent.image(), &trial.directory, reference, room);
-    trial.judge(Call::ListGroup, &arguments, library, &reading, |pairs| GroupListed {
-        pairs: pairs.len() as u64 / 2,
-        ..GroupListed::default()
-    })?;
+    trial.judge(Call::ListGroup, &arguments, library, &reading, |pairs| group_listed(pairs))?;
     holds(Call::ListGroup, &arguments, &list, reading.as_ref().map_or(&[], |(pairs, _)| pairs))
+}
+
+pub fn group_listed(pairs: &[u16]) -> GroupListed {
+    GroupListed { pairs: pairs.len() as u64 / 2, ..GroupListed::default() }
 }
 
 /// Reads the head of a Vdata by both its calls, packs it again, and reads some or all of its values.
@@ -110,7 +111,7 @@ fn compare_head(trial: &mut Trial, reference: u16, rooms: [usize; 2]) -> Outcome
 }
 
 /// Place and length of each field's name.
-fn field_names(found: &Found<Vdata>) -> Vec<u32> {
+pub fn field_names(found: &Found<Vdata>) -> Vec<u32> {
     let lengths = found.record.name_lengths.iter();
     found.names.iter().zip(lengths).flat_map(|(place, length)| [*place as u32, (*length).into()]).collect()
 }
@@ -125,7 +126,7 @@ fn compare_fields(trial: &mut Trial, reference: u16, room: usize) -> Outcome {
 }
 
 /// The fields with the places and lengths of their names.
-fn fields_of(found: &Found<Vdata>) -> Vec<Field> {
+pub fn fields_of(found: &Found<Vdata>) -> Vec<Field> {
     let names = found.names.iter().zip(&found.record.name_lengths);
     let field = |(field, (place, length)): (vset::Field, (&u64, &u16))| Field {
         number_type: field.number_type,
@@ -138,7 +139,7 @@ fn fields_of(found: &Found<Vdata>) -> Vec<Field> {
     found.record.field_list().zip(names).map(field).collect()
 }
 
-fn vdata_read(found: &Found<Vdata>) -> VdataRead {
+pub fn vdata_read(found: &Found<Vdata>) -> VdataRead {
     let Vdata { interlace, records, record_size, name_lengths, tail, .. } = &found.record;
     let fields = name_lengths.len();
     VdataRead {
@@ -166,11 +167,11 @@ fn compare_value(trial: &mut Trial, reference: u16, indices: [u64; 3]) -> Outcom
         trial.tally.count_value(value.number_type, *cause);
     }
     let arguments = [reference.into(), record, field, component];
-    trial.judge(Call::ReadValue, &arguments, library, &reading, |value| ValueRead {
-        kind: value.kind,
-        bits: value.bits,
-        ..ValueRead::default()
-    })
+    trial.judge(Call::ReadValue, &arguments, library, &reading, value_read)
+}
+
+pub fn value_read(value: &Value) -> ValueRead {
+    ValueRead { kind: value.kind, bits: value.bits, ..ValueRead::default() }
 }
 
 /// The indices of all values in a Vdata or, where there are too many, of some; and indices just and far too large.

@@ -1,0 +1,97 @@
+//! Replacing, removing and empty data, on file A and on file A with an extended element: the file after each edit, every byte,
+//! written down from the paper. All edits are undone, which gives back each file before.
+
+use super::edits::{granted, refused, Steps};
+use super::pieces::hex;
+use crate::editor::{Edit, Kind, Request, NO_EDIT};
+use crate::tally::Tally;
+
+const CAPACITY: usize = 200;
+
+const A: &str = "0e031301 0002 00000000
+    006400010000002200000003 000100000000000000000000 687562";
+
+/// The same with 100/1 extended.
+const EXTENDED: &str = "0e031301 0002 00000000
+    406400010000002200000003 000100000000000000000000 687562";
+
+/// The element 100/1 replaced by five bytes: its slot, the data at 37, the trailer at 42.
+const REPLACED: &str = "0e031301 0002 00000000
+    006400010000002500000005 000100000000000000000000 687562 6465706f74
+    0000000a 0000000c 006400010000002200000003 00000025 00000000 4241434b";
+
+/// Then by one byte at 74. The trailer names the one at 42.
+const REPLACED_TWICE: &str = "0e031301 0002 00000000
+    006400010000004a00000001 000100000000000000000000 687562 6465706f74
+    0000000a 0000000c 006400010000002200000003 00000025 00000000 4241434b 2a
+    0000000a 0000000c 006400010000002500000005 0000004a 0000002a 4241434b";
+
+/// Replaced by no bytes: its offset is 0, the trailer stands at 37.
+const EMPTIED: &str = "0e031301 0002 00000000
+    006400010000000000000000 000100000000000000000000 687562
+    0000000a 0000000c 006400010000002200000003 00000025 00000000 4241434b";
+
+const REMOVED: &str = "0e031301 0002 00000000
+    000100000000000000000000 000100000000000000000000 687562
+    0000000a 0000000c 006400010000002200000003 00000025 00000000 4241434b";
+
+/// Then 40000/5 added, in the slot that was freed: the data at 69, the trailer names the one at 37.
+const USED_AGAIN: &str = "0e031301 0002 00000000
+    9c4000050000004500000001 000100000000000000000000 687562
+    0000000a 0000000c 006400010000002200000003 00000025 00000000 4241434b 2a
+    0000000a 0000000c 000100000000000000000000 00000045 00000025 4241434b";
+
+/// 40000/5 added with no bytes.
+const EMPTY_ADDED: &str = "0e031301 0002 00000000
+    006400010000002200000003 9c4000050000000000000000 687562
+    00000016 0000000c 000100000000000000000000 00000025 00000000 4241434b";
+
+/// An extended element replaced: the slot has the base tag then.
+const EXTENDED_REPLACED: &str = "0e031301 0002 00000000
+    006400010000002500000005 000100000000000000000000 687562 6465706f74
+    0000000a 0000000c 406400010000002200000003 00000025 00000000 4241434b";
+
+const EXTENDED_REMOVED: &str = "0e031301 0002 00000000
+    000100000000000000000000 000100000000000000000000 687562
+    0000000a 0000000c 406400010000002200000003 00000025 00000000 4241434b";
+
+/// A case: its name, the file at first, and edits with length and bytes of the file after each.
+type Case<'a> = (&'a str, &'a str, Vec<(Request, u64, &'a str)>);
+
+/// Holds all cases against library, editor and history; answers how many there are.
+pub fn check(tally: &mut Tally) -> Result<usize, String> {
+    let replace = |data| edit(Kind::Replace, (100, 1), data);
+    let remove = || edit(Kind::Remove, (100, 1), b"");
+    let add = |data| edit(Kind::Add, (40000, 5), data);
+    let replaced = (replace(b"depot"), 74, REPLACED);
+    let cases: [Case; 7] = [
+        ("an element replaced", A, vec![replaced.clone()]),
+        ("an element replaced twice", A, vec![replaced, (replace(b"*"), 107, REPLACED_TWICE)]),
+        ("an element replaced by no bytes", A, vec![(replace(b""), 69, EMPTIED)]),
+        ("a slot freed and used again", A, vec![(remove(), 69, REMOVED), (add(b"*"), 102, USED_AGAIN)]),
+        ("an element of no bytes added", A, vec![(add(b""), 69, EMPTY_ADDED)]),
+        ("an extended element replaced", EXTENDED, vec![(replace(b"depot"), 74, EXTENDED_REPLACED)]),
+        ("an extended element removed", EXTENDED, vec![(remove(), 69, EXTENDED_REMOVED)]),
+    ];
+    cases.iter().try_for_each(|case| play(case, tally))?;
+    Ok(cases.len())
+}
+
+/// All edits, then all undos, and one more that has nothing to undo.
+fn play((name, start, edits): &Case, tally: &mut Tally) -> Result<(), String> {
+    let start = hex(start);
+    let mut steps = Steps::new(&start, CAPACITY, tally);
+    let mut files = vec![(37, start.clone())];
+    for (request, length, file) in edits {
+        files.push((*length, hex(file)));
+        steps.step(name, request, granted(*length), &hex(file), files.len() - 1)?;
+    }
+    for (edits, (length, file)) in files.iter().enumerate().rev().skip(1) {
+        steps.step(name, &Request::Undo, granted(*length), file, edits)?;
+    }
+    steps.step(name, &Request::Undo, refused(NO_EDIT), &start, 0)
+}
+
+fn edit(kind: Kind, (tag, reference): (u16, u16), data: &[u8]) -> Request {
+    Request::Edit(Edit { kind, tag, reference, data: data.to_vec() })
+}

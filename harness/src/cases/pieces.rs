@@ -1,0 +1,162 @@
+//! Small files made of readable pieces. The slots of such a file stand at 10, 22, 34 and so on.
+
+use crate::reader::{FIRST_BYTES, FREE};
+
+/// A slot that is free.
+pub const FREE_SLOT: [u8; 12] = slot(FREE, 0, 0, 0);
+
+/// Where the first block names the next one, and where its first slot stands.
+pub const NEXT: usize = 6;
+pub const FIRST_SLOT: usize = 10;
+
+/// Where the fields of a slot stand in it.
+const REFERENCE: usize = 2;
+const OFFSET: usize = 4;
+const LENGTH: usize = 8;
+
+/// A file: the bytes at its front, and zeros behind them up to its length.
+#[derive(Clone, Debug, Default)]
+pub struct Image {
+    front: Vec<u8>,
+    length: usize,
+}
+
+/// The first four bytes and what stands behind them.
+pub fn image(pieces: &[&[u8]]) -> Image {
+    Image::from([&FIRST_BYTES[..], &pieces.concat()].concat())
+}
+
+/// A file of one block: a free slot, then these elements, given by tag, reference and bytes.
+pub fn file(elements: &[(u16, u16, Vec<u8>)]) -> Image {
+    let count = elements.len() as u16 + 1;
+    let mut bytes = [&FIRST_BYTES[..], &block(count, 0), &FREE_SLOT].concat();
+    let mut offset = FIRST_SLOT as u32 + 12 * u32::from(count);
+    for (tag, reference, element) in elements {
+        let length = element.len() as u32;
+        bytes.extend(slot(*tag, *reference, offset, length));
+        offset += length;
+    }
+    elements.iter().for_each(|(_, _, element)| bytes.extend(element));
+    Image::from(bytes)
+}
+
+/// The head of a block.
+pub const fn block(count: u16, next: u32) -> [u8; 6] {
+    let ([a, b], [c, d, e, f]) = (count.to_be_bytes(), next.to_be_bytes());
+    [a, b, c, d, e, f]
+}
+
+pub const fn slot(tag: u16, reference: u16, offset: u32, length: u32) -> [u8; 12] {
+    let ([a, b], [c, d]) = (tag.to_be_bytes(), reference.to_be_bytes());
+    let ([e, f, g, h], [i, j, k, l]) = (offset.to_be_bytes(), length.to_be_bytes());
+    [a, b, c, d, e, f, g, h, i, j, k, l]
+}
+
+/// The trailer of an edit: place altered, bytes altered, old bytes, length before, and place of the previous trailer.
+pub fn trailer(place: u32, altered: u32, old: [u8; 12], before: u32, previous: u32) -> Vec<u8> {
+    [&numbers32(&[place, altered]), &old[..], &numbers32(&[before, previous]), b"BACK"].concat()
+}
+
+/// Numbers of 16 bits, one after the other.
+pub fn numbers16(numbers: &[u16]) -> Vec<u8> {
+    numbers.iter().flat_map(|number| number.to_be_bytes()).collect()
+}
+
+/// Numbers of 32 bits, one after the other.
+pub fn numbers32(numbers: &[u32]) -> Vec<u8> {
+    numbers.iter().flat_map(|number| number.to_be_bytes()).collect()
+}
+
+/// Bytes from their digits, in groups of any size.
+pub fn hex(digits: &str) -> Vec<u8> {
+    let digits: Vec<u32> = digits.chars().filter_map(|digit| digit.to_digit(16)).collect();
+    digits.chunks(2).map(|two| (16 * two[0] + two[1]) as u8).collect()
+}
+
+/// A length and that many bytes.
+pub fn text(bytes: &[u8]) -> Vec<u8> {
+    [&numbers16(&[bytes.len() as u16]), bytes].concat()
+}
+
+impl From<Vec<u8>> for Image {
+    fn from(front: Vec<u8>) -> Image {
+        let length = front.len();
+        Image { front, length }
+    }
+}
+
+impl Image {
+    pub fn len(&self) -> usize {
+        self.length
+    }
+
+    /// All bytes. The system makes the pages of a long image only when they are read.
+    pub fn bytes(&self) -> Vec<u8> {
+        let mut bytes = vec![0; self.length];
+        bytes[..self.front.len()].copy_from_slice(&self.front);
+        bytes
+    }
+
+    /// Zeros behind the image, up to a length.
+    pub fn lengthen(&mut self, length: usize) {
+        self.length = length;
+    }
+
+    /// Other bytes at the front. A long image stays as long.
+    pub fn put_front(&mut self, front: Vec<u8>) {
+        self.length = if self.length > self.front.len() { self.length } else { front.len() };
+        self.front = front;
+    }
+
+    /// The image cut to so many bytes.
+    pub fn cut(&mut self, length: usize) {
+        *self = Image::from(self.front[..length].to_vec());
+    }
+
+    pub fn append(&mut self, bytes: &[u8]) {
+        *self = Image::from([&self.bytes(), bytes].concat());
+    }
+
+    pub fn put(&mut self, place: usize, bytes: &[u8]) {
+        self.front[place..place + bytes.len()].copy_from_slice(bytes);
+    }
+
+    pub fn put16(&mut self, place: usize, number: u16) {
+        self.put(place, &number.to_be_bytes());
+    }
+
+    pub fn put32(&mut self, place: usize, number: u32) {
+        self.put(place, &number.to_be_bytes());
+    }
+
+    pub fn put_tag(&mut self, slot: usize, tag: u16) {
+        self.put16(slot, tag);
+    }
+
+    pub fn put_reference(&mut self, slot: usize, reference: u16) {
+        self.put16(slot + REFERENCE, reference);
+    }
+
+    pub fn put_offset(&mut self, slot: usize, offset: u32) {
+        self.put32(slot + OFFSET, offset);
+    }
+
+    /// Another length of a slot's element, whose bytes stay where they are.
+    pub fn put_length(&mut self, slot: usize, length: u32) {
+        self.put32(slot + LENGTH, length);
+    }
+
+    /// A number at a place in a slot's element.
+    pub fn put16_in(&mut self, slot: usize, place: usize, number: u16) {
+        self.put16(self.offset(slot) + place, number);
+    }
+
+    pub fn put32_in(&mut self, slot: usize, place: usize, number: u32) {
+        self.put32(self.offset(slot) + place, number);
+    }
+
+    fn offset(&self, slot: usize) -> usize {
+        let bytes = &self.front[slot + OFFSET..slot + LENGTH];
+        u32::from_be_bytes(bytes.try_into().expect("four bytes")) as usize
+    }
+}

@@ -1,0 +1,174 @@
+//! The order and the places of refusals, in named cases: for each call each rule that can refuse it, alone, and each two rules
+//! that one input can break. All answers are written down from the paper, and held against the library and the reader alike.
+
+mod ask;
+mod by_library;
+mod by_reader;
+mod choice;
+mod edits;
+mod elements;
+mod groups;
+mod list;
+mod lookup;
+mod opening;
+mod packing;
+mod records;
+mod undo;
+mod vdatas;
+
+use crate::cases::pieces::{FIRST_SLOT, NEXT};
+use ask::{Answer, Ask, Written};
+use std::collections::BTreeSet;
+
+/// A named case. It has one call, which breaks one rule or none, or two: the first breaks two rules, and in the second the one
+/// that answered is mended, so that the other one answers.
+#[derive(Clone)]
+pub struct Case {
+    /// What is asked for, and the faults in it.
+    of: &'static str,
+    faults: Vec<&'static str>,
+    steps: Vec<Step>,
+}
+
+/// A call, the rule that answers it, and what the paper says of it.
+#[derive(Clone)]
+struct Step {
+    rule: &'static str,
+    ask: Ask,
+    paper: Answer,
+}
+
+/// A rule, how it is broken, and number and place of the answer. The rule is named by its number and, where others have the
+/// same one, by a word.
+struct Fault {
+    rule: &'static str,
+    name: &'static str,
+    answer: [u64; 2],
+    spoil: fn(&mut Ask),
+}
+
+/// No rule is broken.
+const NO_RULE: &str = "0";
+
+/// One byte more than a file may have.
+const TOO_MANY_BYTES: usize = 2_147_483_648;
+
+const TOO_LONG: [Fault; 1] = [fault("1", "2,147,483,648 bytes", [1, 0], |ask| ask.image.lengthen(TOO_MANY_BYTES))];
+
+/// The other faults of opening with which it is shown that opening comes first. The first slot of each file stands at 10.
+const OPENING: [Fault; 3] = [
+    fault("2", "other first bytes", [2, 0], |ask| ask.image.put(0, &[0xff])),
+    fault("4", "a chain that leads back", [4, 4], |ask| ask.image.put32(NEXT, 4)),
+    fault("7", "a first slot of tag 0", [7, 10], |ask| ask.image.put_tag(FIRST_SLOT, 0)),
+];
+
+/// Holds all cases against library and reader, and the cases against the list. Answers how many there are, and for how many
+/// entries of the list.
+pub fn check() -> Result<[usize; 2], String> {
+    let mut cases = cases();
+    cases.sort_by_key(|case| case.steps.len());
+    let listed = list::judge(&cases)?;
+    let mut names = BTreeSet::new();
+    for case in &cases {
+        case.check()?;
+        if !names.insert(case.name()) {
+            return Err(format!("{}\nis the name of two cases", case.name()));
+        }
+    }
+    Ok([cases.len(), listed])
+}
+
+fn cases() -> Vec<Case> {
+    let elements = [lookup::cases(), elements::cases(), choice::cases()].concat();
+    let reading = [elements, records::cases(), groups::cases(), vdatas::cases()].concat();
+    let edits = [edits::cases(), undo::cases()].concat();
+    [
+        opening::cases(),
+        with(&TOO_LONG, with(&OPENING, reading)),
+        edits::with_lengths(with(&OPENING, edits)),
+        packing::cases(),
+    ]
+    .concat()
+}
+
+const fn fault(rule: &'static str, name: &'static str, answer: [u64; 2], spoil: fn(&mut Ask)) -> Fault {
+    Fault { rule, name, answer, spoil }
+}
+
+/// A call that is granted: its values, and what it writes.
+fn granted(of: &'static str, ask: Ask, values: &[u64], written: Written) -> Case {
+    let step = Step { rule: NO_RULE, ask, paper: Answer::granted(values, written) };
+    Case { of, faults: Vec::new(), steps: vec![step] }
+}
+
+/// A call that one rule refuses, with number and place.
+fn refused(of: &'static str, rule: &'static str, ask: Ask, answer: [u64; 2]) -> Case {
+    let step = Step { rule, ask, paper: Answer::refused(answer) };
+    Case { of, faults: Vec::new(), steps: vec![step] }
+}
+
+/// A call that two rules refuse, and the same with the first of them mended.
+fn in_order(of: &'static str, first: (&'static str, Ask, [u64; 2]), mended: (&'static str, Ask, [u64; 2])) -> Case {
+    let step = |(rule, ask, answer)| Step { rule, ask, paper: Answer::refused(answer) };
+    Case { of, faults: Vec::new(), steps: vec![step(first), step(mended)] }
+}
+
+/// The cases of one call with each of the faults, whose rules are judged first. Where a case is granted, the fault is alone.
+fn over(faults: &[Fault], cases: &[Case]) -> Vec<Case> {
+    let single = cases.iter().filter(|case| case.steps.len() == 1);
+    single.flat_map(|case| faults.iter().map(|fault| fault.over(case))).collect()
+}
+
+/// The cases, and those of one call with each of the faults.
+fn with(faults: &[Fault], mut cases: Vec<Case>) -> Vec<Case> {
+    cases.extend(over(faults, &cases));
+    cases
+}
+
+impl Fault {
+    fn over(&self, case: &Case) -> Case {
+        let behind = &case.steps[0];
+        let mut ask = behind.ask.clone();
+        (self.spoil)(&mut ask);
+        let step = Step { rule: self.rule, ask, paper: Answer::refused(self.answer) };
+        let steps = if behind.rule == NO_RULE { vec![step] } else { vec![step, behind.clone()] };
+        Case { of: case.of, faults: [&[self.name], &case.faults[..]].concat(), steps }
+    }
+}
+
+impl Case {
+    fn check(&self) -> Result<(), String> {
+        let names = [self.name(), format!("{}; the first mended", self.name())];
+        self.steps
+            .iter()
+            .zip(names)
+            .try_for_each(|(step, name)| step.check().map_err(|difference| format!("{name}\n{difference}")))
+    }
+
+    fn name(&self) -> String {
+        let (call, of, faults) = (self.steps[0].ask.call, self.of, self.faults.join(", and "));
+        match self.faults.as_slice() {
+            [] => format!("refusals, {call:?} of {of}"),
+            _ => format!("refusals, {call:?} of {of}: {faults}"),
+        }
+    }
+}
+
+impl Step {
+    fn check(&self) -> Result<(), String> {
+        let Step { rule, ask, paper } = self;
+        let reader = by_reader::answer_to(ask);
+        let (library, difference) = by_library::answer_to(ask, &paper.written);
+        let numbers = paper.padded(library.len());
+        if library != numbers || reader.numbers != numbers {
+            return Err(format!("paper   {numbers:?}\nlibrary {library:?}\nreader  {:?}", reader.numbers));
+        }
+        if reader.written != paper.written {
+            return Err(format!("paper   {:?}\nreader  {:?}", paper.written, reader.written));
+        }
+        if list::number_of(rule) != numbers[0].to_string() {
+            return Err(format!("is to show rule {rule}, but its answer is {}", numbers[0]));
+        }
+        difference.map_or(Ok(()), |difference| Err(format!("library {difference}")))
+    }
+}

@@ -1,0 +1,162 @@
+//! Add, replace and remove.
+
+use super::ask::{Ask, Written};
+use super::{fault, granted, over, with, Case, Fault, TOO_MANY_BYTES};
+use crate::cases::pieces::{block, file, image, slot, trailer, Image, FREE_SLOT};
+use crate::tally::Call;
+
+/// The greatest length of a file.
+const MOST: usize = 2_147_483_647;
+
+const PRESENT: [Fault; 1] =
+    [fault("18", "an element that is there", [18, 0], |ask| (ask.tag, ask.reference) = (100, 1))];
+
+const ABSENT: [Fault; 1] = [fault("11", "an element that is not there", [11, 0], |ask| ask.reference = 2)];
+
+/// The first of these tags is the extended form of that of 100/1, which is there.
+const BAD_TAG: [Fault; 6] = [
+    fault("7 edit", "tag 16484", [7, 0], |ask| ask.tag = 16484),
+    fault("7 edit", "tag 0", [7, 0], |ask| ask.tag = 0),
+    fault("7 edit", "tag 1", [7, 0], |ask| ask.tag = 1),
+    fault("7 edit", "tag 107", [7, 0], |ask| ask.tag = 107),
+    fault("7 edit", "tag 16384", [7, 0], |ask| ask.tag = 16384),
+    fault("7 edit", "tag 32767", [7, 0], |ask| ask.tag = 32767),
+];
+
+const FULL: [Fault; 2] = [
+    fault("6 edit blocks", "256 blocks and no free slot", [6, 0], |ask| ask.image.put_front(blocks(256, 0))),
+    fault("6 edit slots", "4,081 slots, none of them free", [6, 0], |ask| ask.image.put_front(slots(4081, 0))),
+];
+
+const TOO_LONG: [Fault; 1] = [fault("1 edit", "a file of the greatest length", [1, 0], |ask| ask.image.lengthen(MOST))];
+
+/// The new length is one above the greatest, and the buffer is short.
+const LONG_DATA: [Fault; 1] =
+    [fault("1 edit", "data one byte too long", [1, 0], |ask| ask.data.lengthen(MOST - 37 - 32 + 1))];
+
+const LONGEST_DATA: [Fault; 1] =
+    [fault("19", "data for a file of the greatest length", [19, 0], |ask| ask.data.lengthen(MOST - 37 - 32))];
+
+const NO_ROOM: [Fault; 1] = [fault("19", "one byte too short a buffer", [19, 0], |ask| ask.behind = 32)];
+
+const NO_ROOM_TO_REMOVE: [Fault; 1] = [fault("19", "one byte too short a buffer", [19, 0], |ask| ask.behind = 31)];
+
+const PAST_BUFFER: [Fault; 1] = [fault("1 buffer", "a length past the buffer", [1, 0], |ask| {
+    ask.n = Some(ask.capacity() as u64 + 1);
+})];
+
+const PAST_LIMIT: [Fault; 1] =
+    [fault("1 limit", "a length past the limit", [1, 0], |ask| ask.image.lengthen(TOO_MANY_BYTES))];
+
+pub fn cases() -> Vec<Case> {
+    [adds(), replacements(), removals()].concat()
+}
+
+/// The cases, and those of one call with a length past the buffer or past the limit. A file that ends with a trailer is not made
+/// longer.
+pub fn with_lengths(cases: Vec<Case>) -> Vec<Case> {
+    let ends_with_trailer = |case: &&Case| case.steps[0].rule.starts_with("21");
+    let others: Vec<Case> = cases.iter().filter(|case| !ends_with_trailer(case)).cloned().collect();
+    [over(&PAST_LIMIT, &others), with(&PAST_BUFFER, cases)].concat()
+}
+
+/// The tag, the pair, the directory, the limit, the buffer.
+fn adds() -> Vec<Case> {
+    let added = [granted("an element", edit(Call::Add, (40000, 5), one_free()), &[70], Written::bytes(&one_added()))];
+    let (present, full, long) = (over(&PRESENT, &added), over(&FULL, &added), over(&TOO_LONG, &added));
+    let room = [over(&NO_ROOM, &added), over(&LONGEST_DATA, &added)].concat();
+    let later = [&full[..], &long, &room].concat();
+    [
+        over(&BAD_TAG, &added),
+        over(&BAD_TAG[..1], &present),
+        over(&BAD_TAG[..1], &later),
+        over(&PRESENT, &later),
+        over(&FULL, &long),
+        over(&FULL, &room[..1]),
+        over(&TOO_LONG, &room[..1]),
+        over(&LONG_DATA, &room[1..]),
+        present,
+        later,
+        added.into(),
+        last_blocks(),
+    ]
+    .concat()
+}
+
+/// The tag, the pair, the limit, the buffer.
+fn replacements() -> Vec<Case> {
+    let ask = edit(Call::Replace, (100, 1), one_free());
+    let slots = [FREE_SLOT, slot(100, 1, 37, 1)].concat();
+    let old = trailer(22, 12, slot(100, 1, 34, 3), 37, 0);
+    let file = image(&[&block(2, 0), &slots, b"hub", &[0x2a], &old]).bytes();
+    let replaced = [granted("an element", ask, &[70], Written::bytes(&file))];
+    let room = over(&LONGEST_DATA, &replaced);
+    let data = [over(&LONG_DATA, &room), over(&BAD_TAG[..1], &room), over(&ABSENT, &room), room];
+    [changes(replaced, &NO_ROOM), data.concat()].concat()
+}
+
+fn removals() -> Vec<Case> {
+    let ask = Ask { data: Image::default(), ..edit(Call::Remove, (100, 1), one_free()) };
+    let old = trailer(22, 12, slot(100, 1, 34, 3), 37, 0);
+    let file = image(&[&block(2, 0), &FREE_SLOT, &FREE_SLOT, b"hub", &old]).bytes();
+    changes([granted("an element", ask, &[69], Written::bytes(&file))], &NO_ROOM_TO_REMOVE)
+}
+
+/// What a replacement and a removal have in common.
+fn changes(changed: [Case; 1], no_room: &[Fault]) -> Vec<Case> {
+    let (absent, long, room) = (over(&ABSENT, &changed), over(&TOO_LONG, &changed), over(no_room, &changed));
+    let later = [&absent[..], &long, &room].concat();
+    [
+        over(&BAD_TAG, &changed),
+        over(&BAD_TAG[..1], &later),
+        over(&ABSENT, &long),
+        over(&ABSENT, &room),
+        over(&TOO_LONG, &room),
+        later,
+        changed.into(),
+    ]
+    .concat()
+}
+
+/// Adds of a 256th block, and of the last slots up to 4,096.
+fn last_blocks() -> Vec<Case> {
+    let new_block = |offset| [&block(16, 0)[..], &slot(40000, 5, offset, 1), &FREE_SLOT.repeat(15)].concat();
+    let last_block = trailer(1542, 4, [0; 12], 1546, 0);
+    let with_block = [&blocks(255, 1546)[..], &new_block(1744), &[0x2a], &last_block].concat();
+    let last_slots = trailer(6, 4, [0; 12], 48970, 0);
+    let with_slots = [&slots(4080, 48970)[..], &new_block(49168), &[0x2a], &last_slots].concat();
+    let add = |file: Vec<u8>| edit(Call::Add, (40000, 5), Image::from(file));
+    vec![
+        granted("a 256th block", add(blocks(255, 0)), &[1777], Written::bytes(&with_block)),
+        granted("the last 16 slots", add(slots(4080, 0)), &[49201], Written::bytes(&with_slots)),
+    ]
+}
+
+/// An edit with one byte of data, and room for it.
+fn edit(call: Call, (tag, reference): (u16, u16), file: Image) -> Ask {
+    Ask { tag, reference, data: Image::from(vec![0x2a]), behind: 300, ..Ask::on(call, file) }
+}
+
+/// A free slot and 100/1: 37 bytes.
+fn one_free() -> Image {
+    file(&[(100, 1, b"hub".to_vec())])
+}
+
+/// The same with 40000/5 in the free slot.
+fn one_added() -> Vec<u8> {
+    let slots = [slot(40000, 5, 37, 1), slot(100, 1, 34, 3)].concat();
+    image(&[&block(2, 0), &slots, b"hub", &[0x2a], &trailer(10, 12, FREE_SLOT, 37, 0)]).bytes()
+}
+
+/// Blocks one behind the other, the first with the empty 100/1 as its only slot, the others without slots.
+fn blocks(count: u32, last_next: u32) -> Vec<u8> {
+    let next = |index| if index == count - 1 { last_next } else { 22 + 6 * index };
+    let rest: Vec<u8> = (1..count).flat_map(|index| block(0, next(index))).collect();
+    image(&[&block(1, next(0)), &slot(100, 1, 0, 0), &rest]).bytes()
+}
+
+/// A block of the empty elements 100/1, 100/2 and so on.
+fn slots(count: u16, next: u32) -> Vec<u8> {
+    let slots: Vec<u8> = (1..=count).flat_map(|reference| slot(100, reference, 0, 0)).collect();
+    image(&[&block(count, next), &slots]).bytes()
+}

@@ -1,0 +1,385 @@
+//! What must have a case, written down from the paper: for each call the rules that can refuse it, and of each two that one
+//! input can break the one that is judged first. A rule is named by its number and, where others have the same, by a word.
+
+use super::{Case, NO_RULE};
+use crate::tally::{Call, CALLS};
+use std::collections::BTreeSet;
+
+/// The last number of the paper's table.
+const LAST_NUMBER: u64 = 22;
+
+type Rules = &'static [&'static str];
+
+/// What must be shown of some calls: that they are granted; each rule alone; the rules ahead before those of opening and those
+/// behind, and those of opening before those behind; and rules that are judged each before each of others.
+struct Must {
+    calls: &'static [Call],
+    ahead: Rules,
+    opening: Rules,
+    behind: Rules,
+    order: &'static [(Rules, Rules)],
+}
+
+/// A call, and the rule or the two rules of which there must be a case.
+type Shown = (String, Vec<&'static str>);
+
+/// Complains of what must have a case and has none, and of cases that the list does not name. Answers how long the list is.
+pub fn judge(cases: &[Case]) -> Result<usize, String> {
+    let listed: BTreeSet<Shown> = ALL.iter().flat_map(Must::shown).collect();
+    let present: BTreeSet<Shown> = cases.iter().map(shown_by).collect();
+    let words = |shown: &Shown| format!("{}: {}", shown.0, shown.1.join(" before "));
+    let missing: Vec<String> = listed.difference(&present).map(words).collect();
+    let unlisted = present.difference(&listed).map(words).chain(numbers_missing(&listed));
+    let unlisted: Vec<String> = unlisted.collect();
+    match (missing.as_slice(), unlisted.as_slice()) {
+        ([], []) => Ok(listed.len()),
+        ([], unlisted) => Err(format!("refusals, not in the list: {}", unlisted.join("; "))),
+        (missing, _) => Err(format!("refusals, without a case: {}", missing.join("; "))),
+    }
+}
+
+/// The numbers that a call can answer and that the list does not name for it. Some are shown for opening alone.
+fn numbers_missing(listed: &BTreeSet<Shown>) -> Vec<String> {
+    let asked = |(call, number): &(Call, u64)| {
+        let other = [3, 5, 6, 8, 9, 10].contains(number) && *call != Call::Open;
+        call.can_answer(*number) && !other
+    };
+    let names = |(call, number): &(Call, u64)| {
+        let (call, number) = (format!("{call:?}"), number.to_string());
+        listed.iter().any(|(listed, rules)| *listed == call && rules.len() == 1 && number_of(rules[0]) == number)
+    };
+    let all = CALLS.into_iter().flat_map(|call| (0..=LAST_NUMBER).map(move |number| (call, number)));
+    all.filter(|entry| asked(entry) && !names(entry)).map(|(call, number)| format!("{call:?}: {number}")).collect()
+}
+
+/// The number of a rule.
+pub fn number_of(rule: &str) -> &str {
+    rule.split(' ').next().unwrap_or(rule)
+}
+
+fn shown_by(case: &Case) -> Shown {
+    let call = case.steps[0].ask.call;
+    (format!("{call:?}"), case.steps.iter().map(|step| step.rule).collect())
+}
+
+impl Must {
+    fn shown(&self) -> Vec<Shown> {
+        let Must { calls, ahead, opening, behind, order } = *self;
+        let alone = [&[NO_RULE], ahead, opening, behind].concat();
+        let mut rules: Vec<Vec<&'static str>> = alone.into_iter().map(|rule| vec![rule]).collect();
+        for (first, second) in [&[(ahead, opening), (ahead, behind), (opening, behind)], order].concat() {
+            rules.extend(first.iter().flat_map(|first| second.iter().map(|second| vec![*first, *second])));
+        }
+        let of =
+            |call: &Call| -> Vec<Shown> { rules.iter().map(|rules| (format!("{call:?}"), rules.clone())).collect() };
+        calls.iter().flat_map(of).collect()
+    }
+}
+
+const ALL: [Must; 24] = [
+    OPEN,
+    FIND,
+    LIST,
+    VIEW,
+    COPY,
+    CHOOSE,
+    ADD,
+    REPLACE_REMOVE,
+    UNDO,
+    UNDO_TRAILER,
+    NUMBER_TYPE,
+    DIMENSION,
+    ARRAY,
+    GROUP,
+    LIST_GROUP,
+    HEAD,
+    VDATA,
+    FIELDS,
+    VALUE,
+    PACK_NUMBER_TYPE,
+    PACK_DIMENSION,
+    PACK_ARRAY,
+    PACK_GROUP,
+    PACK_VDATA,
+];
+
+/// A call that reads an image.
+const fn reading(calls: &'static [Call], behind: Rules, order: &'static [(Rules, Rules)]) -> Must {
+    Must { calls, ahead: &["1"], opening: OPENING, behind, order }
+}
+
+/// A call on a buffer. The length that it is given may be past the buffer, or past the limit.
+const fn editing(calls: &'static [Call], behind: Rules, order: &'static [(Rules, Rules)]) -> Must {
+    Must { calls, ahead: &["1 buffer", "1 limit"], opening: OPENING, behind, order }
+}
+
+/// A call that opens nothing.
+const fn packing(calls: &'static [Call], behind: Rules, order: &'static [(Rules, Rules)]) -> Must {
+    Must { calls, ahead: &[], opening: &[], behind, order }
+}
+
+/// Opening comes first in every call. Shown for each are its length, its first bytes, a fault of the chain and one of a slot.
+const OPENING: Rules = &["2", "4", "7"];
+
+/// Opening itself. A block already walked lies inside: 4 and 3 do not meet. A head that is cut has no next block. That a block
+/// which is cut meets 1 takes a file past the limit with a block at its end, which no case holds; one far outside meets 1 too.
+const OPEN: Must = Must {
+    calls: &[Call::Open],
+    ahead: &[],
+    opening: &[],
+    behind: &["1", "2", "3 header", "3 block", "4", "5", "6 blocks", "6 slots", "7", "8", "9", "10"],
+    order: &[
+        (&["1"], &["2", "3 header", "4", "5", "6 blocks", "6 slots", "7", "8", "9", "10"]),
+        (&["2"], &["3 header", "3 block", "4", "5", "6 blocks", "6 slots", "7", "8", "9", "10"]),
+        // Of one block.
+        (&["4"], &["6 blocks", "6 slots", "5"]),
+        (&["6 blocks"], &["3 header", "3 block", "5"]),
+        (&["3 header"], &["6 slots", "5"]),
+        (&["6 slots"], &["3 block", "5"]),
+        (&["3 block"], &["5"]),
+        // Of a block and the next.
+        (&["6 blocks", "6 slots", "3 block", "5"], &["4"]),
+        (&["3 block", "5"], &["6 blocks", "6 slots"]),
+        (&["5"], &["3 header", "3 block"]),
+        // Of the chain and a slot.
+        (&["3 header", "3 block", "4", "5", "6 blocks", "6 slots"], SLOT),
+        // Of one slot, or of a slot and a later one.
+        (SLOT, SLOT),
+    ],
+};
+
+const SLOT: Rules = &["7", "8", "9", "10"];
+
+const FIND: Must = reading(&[Call::Find], &["11"], &[]);
+
+const LIST: Must = reading(&[Call::List], &["14"], &[]);
+
+/// A pair that is absent has no storage.
+const VIEW: Must = reading(&[Call::View], &["11", "12"], &[]);
+
+/// A record under 4 bytes has no length, and so no room that is too small.
+const COPY: Must = Must {
+    behind: &[
+        "11",
+        "13 cut",
+        "12",
+        "13 size",
+        "13 first_len",
+        "13 blk_len",
+        "13 num_blk",
+        "14",
+        "13 table 0",
+        "13 table absent",
+        "13 table extended",
+        "13 table short",
+        "13 table twice",
+        "13 257th table",
+        "13 block 0",
+        "13 block absent",
+        "13 block extended",
+        "13 block short",
+    ],
+    order: &[
+        (&["13 cut"], &["12"]),
+        (&["12"], &["13 size", "13 first_len", "13 blk_len", "13 num_blk", "14"]),
+        (&["13 size", "13 first_len", "13 blk_len", "13 num_blk"], &["14"]),
+        (&["14"], &["13 table 0", "13 table absent", "13 table extended", "13 table short", "13 table twice"]),
+        (&["14"], &["13 257th table", "13 block 0", "13 block absent", "13 block extended", "13 block short"]),
+    ],
+    ..reading(&[Call::Copy], &[], &[])
+};
+
+const CHOOSE: Must = reading(
+    &[Call::Choose],
+    &["1 fallback", "2 fallback", "4 fallback", "7 fallback", "11", "12 current", "12 fallback"],
+    &[
+        (&["1 fallback", "2 fallback", "4 fallback", "7 fallback"], &["11", "12 current", "12 fallback"]),
+        (&["12 current"], &["12 fallback"]),
+    ],
+);
+
+const ADD: Must = editing(
+    &[Call::Add],
+    &["7 edit", "18", "6 edit blocks", "6 edit slots", "1 edit", "19"],
+    &[
+        (&["7 edit"], &["18", "6 edit blocks", "6 edit slots", "1 edit", "19"]),
+        (&["18"], &["6 edit blocks", "6 edit slots", "1 edit", "19"]),
+        (&["6 edit blocks", "6 edit slots"], &["1 edit", "19"]),
+        (&["1 edit"], &["19"]),
+    ],
+);
+
+/// Neither takes a new slot.
+const REPLACE_REMOVE: Must = editing(
+    &[Call::Replace, Call::Remove],
+    &["7 edit", "11", "1 edit", "19"],
+    &[(&["7 edit"], &["11", "1 edit", "19"]), (&["11"], &["1 edit", "19"]), (&["1 edit"], &["19"])],
+);
+
+/// Without a trailer there is none that breaks a rule.
+const UNDO: Must = editing(&[Call::Undo], &["20"], &[]);
+
+/// Two rules of a trailer answer the same. A length before is not too long and too short at once. That a trailer meets a length
+/// past the limit takes a file with a trailer there, which no case holds.
+const UNDO_TRAILER: Must = Must {
+    calls: &[Call::Undo],
+    ahead: &["1 buffer"],
+    opening: OPENING,
+    behind: &[
+        "21 length before",
+        "21 past",
+        "21 bytes altered",
+        "21 place",
+        "21 padding",
+        "21 previous",
+        "21 restored",
+    ],
+    order: &[
+        (&["21 length before", "21 past"], &["21 bytes altered", "21 place", "21 padding"]),
+        (&["21 length before", "21 past"], &["21 previous", "21 restored"]),
+        (&["21 bytes altered"], &["21 place", "21 padding", "21 previous", "21 restored"]),
+        (&["21 place"], &["21 padding", "21 previous", "21 restored"]),
+        (&["21 padding"], &["21 previous", "21 restored"]),
+        (&["21 previous"], &["21 restored"]),
+    ],
+};
+
+const NUMBER_TYPE: Must = reading(&[Call::ReadNumberType], &["11", "12", "15"], &[(&["12"], &["15"])]);
+
+const DIMENSION: Must = reading(
+    &[Call::ReadDimension],
+    &["11", "12", "15 length", "15 interlace"],
+    &[(&["12"], &["15 length", "15 interlace"])],
+);
+
+/// An array of rank 0 has no sizes, and so room enough for them.
+const ARRAY: Must = reading(
+    &[Call::ReadArray],
+    &["11", "12", "15 length", "15 rank", "14 sizes", "14 pairs"],
+    &[
+        (&["12"], &["15 length", "15 rank", "14 sizes", "14 pairs"]),
+        (&["15 length"], &["14 sizes", "14 pairs"]),
+        (&["15 rank"], &["14 pairs"]),
+    ],
+);
+
+const GROUP: Must = reading(
+    &[Call::ReadGroup],
+    &["11", "12", "15 cut", "15 version", "14"],
+    &[(&["12"], &["15 cut", "15 version", "14"]), (&["15 cut", "15 version"], &["14"])],
+);
+
+/// A named group that is absent has no pairs. At each pair its place comes first, then the group that it is, then later pairs.
+const LIST_GROUP: Must = Must {
+    behind: &[
+        "11 named",
+        "12 named",
+        "15 named",
+        "14 place",
+        "14 4,097th",
+        "22",
+        "11 member",
+        "12 member",
+        "15 member",
+        "14 later",
+        "11 later",
+        "12 later",
+        "15 later",
+    ],
+    order: &[
+        (&["12 named"], &["15 named"]),
+        (&["12 named", "15 named"], &["14 place", "14 4,097th", "22", "11 member", "12 member", "15 member"]),
+        (&["14 place", "14 4,097th"], &["22", "11 member", "12 member", "15 member"]),
+        (&["22"], &["11 member", "12 member", "15 member", "14 later"]),
+        (&["12 member"], &["15 member"]),
+        (&["11 member", "12 member", "15 member"], &["14 later", "11 later", "12 later", "15 later"]),
+    ],
+    ..reading(&[Call::ListGroup], &[], &[])
+};
+
+/// The head of a Vdata, in all calls that read it.
+const HEAD: Must = Must {
+    behind: &[
+        "11",
+        "12",
+        "15 cut",
+        "15 version",
+        "15 interlace",
+        "15 count",
+        "15 order",
+        "16",
+        "15 size",
+        "15 offset",
+        "15 record size",
+    ],
+    order: &[
+        (&["12"], &["15 cut", "15 version", "15 interlace", "15 count", "15 order"]),
+        (&["12"], &["16", "15 size", "15 offset", "15 record size"]),
+        (&["15 cut", "15 version", "15 interlace", "15 count", "15 order"], &["16"]),
+        (&["16"], &["15 size", "15 offset", "15 record size"]),
+    ],
+    ..reading(&[Call::ReadVdata, Call::ReadFields, Call::ReadValue], &[], &[])
+};
+
+/// The rules of a head that is there, but for its count.
+const BAD_HEAD: Rules =
+    &["12", "15 cut", "15 version", "15 interlace", "15 order", "16", "15 size", "15 offset", "15 record size"];
+
+const VDATA: Must = reading(
+    &[Call::ReadVdata],
+    &["14 fields", "14 names"],
+    &[(BAD_HEAD, &["14 fields", "14 names"]), (&["15 count"], &["14 fields"])],
+);
+
+const FIELDS: Must = reading(&[Call::ReadFields], &["14"], &[(BAD_HEAD, &["14"]), (&["15 count"], &["14"])]);
+
+/// A head and data that are both absent answer the same.
+const VALUE: Must = reading(
+    &[Call::ReadValue],
+    &["17 record", "17 field", "17 component", "11 data", "12 data", "15 data"],
+    &[
+        (&["11"], &["17 record", "17 field", "17 component", "12 data", "15 data"]),
+        (BAD_HEAD, &["17 record", "17 field", "17 component", "11 data", "12 data", "15 data"]),
+        (&["15 count"], &["17 record"]),
+        (&["17 record", "17 field", "17 component"], &["11 data", "12 data", "15 data"]),
+        (&["12 data"], &["15 data"]),
+    ],
+);
+
+const PACK_NUMBER_TYPE: Must = packing(&[Call::PackNumberType], &["14"], &[]);
+
+const PACK_DIMENSION: Must = packing(&[Call::PackDimension], &["15", "14"], &[(&["15"], &["14"])]);
+
+const PACK_ARRAY: Must =
+    packing(&[Call::PackArray], &["15 rank", "15 pairs", "14"], &[(&["15 rank", "15 pairs"], &["14"])]);
+
+const PACK_GROUP: Must = packing(
+    &[Call::PackGroup],
+    &["15 members", "15 name", "15 class", "15 version", "14"],
+    &[(&["15 members", "15 name", "15 class", "15 version"], &["14"])],
+);
+
+const PACK_VDATA: Must = Must {
+    behind: &[
+        "15 entries",
+        "15 names",
+        "15 name",
+        "15 class",
+        "15 version",
+        "15 interlace",
+        "15 count",
+        "15 order",
+        "16",
+        "15 size",
+        "15 offset",
+        "15 record size",
+        "14",
+    ],
+    order: &[
+        (&["15 entries", "15 names", "15 name", "15 class"], &["16", "14"]),
+        (&["15 version", "15 interlace", "15 count", "15 order"], &["16", "14"]),
+        (&["16"], &["15 size", "15 offset", "15 record size", "14"]),
+        (&["15 size", "15 offset", "15 record size"], &["14"]),
+    ],
+    ..packing(&[Call::PackVdata], &[], &[])
+};

@@ -1,0 +1,226 @@
+//! Vdata heads, by both calls that read them, and Vdata values.
+
+use super::ask::{Ask, Rooms, Written};
+use super::{fault, granted, over, Case, Fault};
+use crate::cases::pieces::{file, numbers16, numbers32, text, Image};
+use crate::ffi::records::Field;
+use crate::tally::Call;
+
+/// The slots of head and data, and of a second head where there is one.
+const HEAD: usize = 22;
+const DATA: usize = 34;
+const SECOND_HEAD: usize = 34;
+
+const HEAD_TAG: u16 = 1962;
+const DATA_TAG: u16 = 1963;
+const EXTENDED_HEAD: u16 = 18346;
+const EXTENDED_DATA: u16 = 18347;
+
+/// Where the numbers of a head stand in it, of the types, sizes, offsets and orders of two fields the first.
+const INTERLACE: usize = 0;
+const RECORD_SIZE: usize = 6;
+const COUNT: usize = 8;
+const TYPE: usize = 10;
+const SIZE: usize = 14;
+const OFFSET: usize = 18;
+const ORDER: usize = 22;
+const VERSION: usize = 43;
+
+const ABSENT: [Fault; 1] = [fault("11", "no head", [11, 0], |ask| ask.image.put_reference(HEAD, 7))];
+
+const EXTENDED: [Fault; 1] = [fault("12", "an extended head", [12, 22], |ask| ask.image.put_tag(HEAD, EXTENDED_HEAD))];
+
+/// Heads that do not tell how many records, fields or components there are.
+const UNKNOWN: [Fault; 2] = [
+    fault("15 cut", "a head of no bytes", [15, 22], |ask| ask.image.put_length(HEAD, 0)),
+    fault("15 cut", "a count of 3 in a head for 2", [15, 22], |ask| ask.image.put16_in(HEAD, COUNT, 3)),
+];
+
+/// Layout, interlace and orders.
+const LAYOUT: [Fault; 5] = [
+    fault("15 cut", "a head of 46 bytes", [15, 22], |ask| ask.image.put_length(HEAD, 46)),
+    fault("15 version", "version 4", [15, 22], |ask| ask.image.put16_in(HEAD, VERSION, 4)),
+    fault("15 interlace", "interlace 2", [15, 22], |ask| ask.image.put16_in(HEAD, INTERLACE, 2)),
+    fault("15 order", "an order of 0", [15, 22], |ask| ask.image.put16_in(HEAD, ORDER, 0)),
+    fault("15 order", "a second order of 0", [15, 22], |ask| ask.image.put16_in(HEAD, ORDER + 2, 0)),
+];
+
+const UNKNOWN_TYPE: [Fault; 2] = [
+    fault("16", "an unknown type", [16, 22], |ask| ask.image.put16_in(HEAD, TYPE, 26)),
+    fault("16", "an unknown second type", [16, 22], |ask| ask.image.put16_in(HEAD, TYPE + 2, 0)),
+];
+
+const SIZES: [Fault; 4] = [
+    fault("15 size", "a wrong size", [15, 22], |ask| ask.image.put16_in(HEAD, SIZE, 4)),
+    fault("15 size", "a wrong second size", [15, 22], |ask| ask.image.put16_in(HEAD, SIZE + 2, 2)),
+    fault("15 offset", "a wrong offset", [15, 22], |ask| ask.image.put16_in(HEAD, OFFSET + 2, 4)),
+    fault("15 record size", "a wrong record size", [15, 22], |ask| ask.image.put16_in(HEAD, RECORD_SIZE, 8)),
+];
+
+const SMALL: [Fault; 3] = [
+    fault("14 fields", "one entry too few for the fields", [14, 0], |ask| ask.rooms.shorts = 7),
+    fault("14 fields", "no room at all", [14, 0], |ask| (ask.rooms.shorts, ask.rooms.longs) = (0, 0)),
+    fault("14 names", "one entry too few for the names", [14, 0], |ask| ask.rooms.longs = 3),
+];
+
+const SMALL_TABLE: [Fault; 2] = [
+    fault("14", "room for one field of two", [14, 0], |ask| ask.rooms.fields = 1),
+    fault("14", "no room", [14, 0], |ask| ask.rooms.fields = 0),
+];
+
+/// Of two heads the first has 256 fields, the second 257.
+const MANY_FIELDS: [Fault; 1] = [fault("15 count", "257 fields", [15, 34], |ask| ask.reference = 2)];
+
+const EXTENDED_SECOND: [Fault; 1] =
+    [fault("12", "an extended head", [12, 34], |ask| ask.image.put_tag(SECOND_HEAD, EXTENDED_HEAD))];
+
+const UNKNOWN_TYPES: [Fault; 1] = [fault("16", "an unknown type in both heads", [16, 22], |ask| {
+    ask.image.put16_in(HEAD, TYPE, 26);
+    ask.image.put16_in(SECOND_HEAD, TYPE, 26);
+})];
+
+const INDICES: [Fault; 6] = [
+    fault("17 record", "record 2 of 2", [17, 0], |ask| ask.indices[0] = 2),
+    fault("17 record", "record 4,294,967,297", [17, 0], |ask| ask.indices[0] = 0x1_0000_0001),
+    fault("17 field", "field 2 of 2", [17, 0], |ask| ask.indices[1] = 2),
+    fault("17 field", "the greatest field", [17, 0], |ask| ask.indices[1] = u64::MAX),
+    fault("17 component", "component 1 of 1", [17, 0], |ask| ask.indices[2] = 1),
+    fault("17 component", "component 65,536", [17, 0], |ask| ask.indices[2] = 65536),
+];
+
+const NO_DATA: [Fault; 1] = [fault("11 data", "no data", [11, 0], |ask| ask.image.put_reference(DATA, 7))];
+
+const EXTENDED_VALUES: [Fault; 1] =
+    [fault("12 data", "extended data", [12, 34], |ask| ask.image.put_tag(DATA, EXTENDED_DATA))];
+
+const SHORT_DATA: [Fault; 2] = [
+    fault("15 data", "11 bytes of data", [15, 34], |ask| ask.image.put_length(DATA, 11)),
+    fault("15 data", "no bytes of data", [15, 34], |ask| ask.image.put_length(DATA, 0)),
+];
+
+pub fn cases() -> Vec<Case> {
+    let heads = [heads_of(read(), &SMALL), heads_of(read_fields(), &SMALL_TABLE)];
+    [heads.concat(), long_heads(), values()].concat()
+}
+
+/// Both calls answer the same numbers.
+const NUMBERS: [u64; 12] = [0, 2, 6, 2, 93, 1, 96, 1, 9, 8, 3, 7];
+
+fn read() -> Case {
+    let rooms = Rooms { shorts: 9, longs: 6, ..Rooms::default() };
+    let ask = Ask { reference: 1, rooms, ..Ask::on(Call::ReadVdata, vdata()) };
+    let written = Written { shorts: vec![22, 2, 0, 1, 24, 4, 2, 1], longs: vec![86, 1, 89, 2], ..Written::default() };
+    granted("two fields", ask, &NUMBERS, written)
+}
+
+fn read_fields() -> Case {
+    let rooms = Rooms { fields: 3, ..Rooms::default() };
+    let ask = Ask { reference: 1, rooms, ..Ask::on(Call::ReadFields, vdata()) };
+    let fields = vec![
+        Field { number_type: 22, size: 2, offset: 0, order: 1, name_offset: 86, name_length: 1 },
+        Field { number_type: 24, size: 4, offset: 2, order: 1, name_offset: 89, name_length: 2 },
+    ];
+    granted("two fields", ask, &NUMBERS, Written { fields, ..Written::default() })
+}
+
+/// The element, the layout, the types, the sizes, then the room.
+fn heads_of(read: Case, small: &[Fault]) -> Vec<Case> {
+    let read = [read];
+    let small = over(small, &read);
+    let faults = head_faults(&read);
+    let rest = [&LAYOUT[..], &UNKNOWN_TYPE, &SIZES, &EXTENDED].map(|first| over(first, &small));
+    [faults, rest.concat(), small, read.into()].concat()
+}
+
+/// What can be wrong with a head, alone and two at once.
+fn head_faults(read: &[Case]) -> Vec<Case> {
+    let (layout, types, sizes) = (over(&LAYOUT, read), over(&UNKNOWN_TYPE, read), over(&SIZES, read));
+    [
+        over(&ABSENT, read),
+        over(&EXTENDED, read),
+        over(&UNKNOWN, read),
+        over(&EXTENDED, &layout),
+        over(&EXTENDED, &types),
+        over(&EXTENDED, &sizes),
+        over(&LAYOUT, &types),
+        over(&UNKNOWN_TYPE, &sizes),
+        layout,
+        types,
+        sizes,
+    ]
+    .concat()
+}
+
+/// The head, the indices, the data.
+fn values() -> Vec<Case> {
+    let ask = Ask { reference: 1, indices: [1, 1, 0], ..Ask::on(Call::ReadValue, vdata()) };
+    let read = [granted("the last value", ask, &[1, 0xffff_ffff_8000_0000], Written::default())];
+    let indices = over(&INDICES, &read);
+    let short = over(&SHORT_DATA, &read);
+    let data = [over(&NO_DATA, &read), over(&EXTENDED_VALUES, &read), short.clone()].concat();
+    let later = [&indices[..], &data].concat();
+    let rest = [&LAYOUT[..], &UNKNOWN_TYPE, &SIZES, &EXTENDED].map(|first| over(first, &later));
+    [
+        head_faults(&read),
+        rest.concat(),
+        over(&ABSENT, &indices),
+        over(&ABSENT, &data[1..]),
+        over(&INDICES, &data),
+        over(&EXTENDED_VALUES, &short),
+        later,
+        read.into(),
+    ]
+    .concat()
+}
+
+/// Two heads, by each call that reads a head.
+fn long_heads() -> Vec<Case> {
+    let numbers = [0, 1, 256, 256, 2630, 0, 2632, 0, 0, 0, 3, 0];
+    let shorts = (0..256).flat_map(|index| [20, 1, index, 1]).collect();
+    let longs = (0..256).flat_map(|index| [2118 + 2 * index, 0]).collect();
+    let written = Written { shorts, longs, ..Written::default() };
+    let read = granted("256 fields", long_ask(Call::ReadVdata), &numbers, written);
+    let written = Written { fields: (0..256).map(long_field).collect(), ..Written::default() };
+    let read_fields = granted("256 fields", long_ask(Call::ReadFields), &numbers, written);
+    let value = granted("a value of 256", long_ask(Call::ReadValue), &[1, 7], Written::default());
+    [long_head(read, &SMALL[1..2]), long_head(read_fields, &SMALL_TABLE[1..]), long_head(value, &INDICES[..1])].concat()
+}
+
+/// The element, the count, then the types and what is judged last.
+fn long_head(read: Case, last: &[Fault]) -> Vec<Case> {
+    let read = [read];
+    let many = over(&MANY_FIELDS, &read);
+    let later = [over(&UNKNOWN_TYPES, &read), over(last, &read)].concat();
+    [over(&EXTENDED_SECOND, &many), over(&MANY_FIELDS, &later), many, read.into()].concat()
+}
+
+fn long_ask(call: Call) -> Ask {
+    let heads = [256, 257].map(long);
+    let [first, second] = heads;
+    let image = file(&[(HEAD_TAG, 1, first), (HEAD_TAG, 2, second), (DATA_TAG, 1, vec![7; 256])]);
+    let rooms = Rooms { shorts: 1100, longs: 600, fields: 300, ..Rooms::default() };
+    Ask { reference: 1, indices: [0, 255, 0], rooms, ..Ask::on(call, image) }
+}
+
+/// A head of one record of so many fields without names, each a signed byte.
+fn long(count: u16) -> Vec<u8> {
+    let columns = [vec![20; count.into()], vec![1; count.into()], (0..count).collect(), vec![1; count.into()]];
+    let names = vec![0; count.into()];
+    let tail = [0, 0, 0, 0, 3, 0];
+    numbers16(&[&[0, 0, 1, count, count], &columns.concat()[..], &names, &tail].concat())
+}
+
+fn long_field(index: u16) -> Field {
+    let name_offset = 2118 + 2 * u32::from(index);
+    Field { number_type: 20, size: 1, offset: index, order: 1, name_offset, name_length: 0 }
+}
+
+/// Head and data of 1962/1: two records of two fields, of 2 and 4 bytes. The head stands at 58, the data at 105.
+fn vdata() -> Image {
+    let columns = numbers16(&[22, 24, 2, 4, 0, 2, 1, 1]);
+    let start = [numbers16(&[0]), numbers32(&[2]), numbers16(&[6, 2]), columns].concat();
+    let names = [text(b"x"), text(b"dx"), text(b"v"), text(b"c")].concat();
+    let head = [start, names, numbers16(&[9, 8, 3, 7])].concat();
+    let data = [numbers16(&[1]), numbers32(&[2]), numbers16(&[0xfffe]), numbers32(&[0x8000_0000])].concat();
+    file(&[(HEAD_TAG, 1, head), (DATA_TAG, 1, data), (100, 1, b"hub".to_vec())])
+}
