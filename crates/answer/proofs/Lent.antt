@@ -3,8 +3,10 @@ use Prim.Native.Nat.{ℕ, zero, suc}
 use mathlib.Core.Path.{_≡_, refl, sym, ap, _∙_}
 use mathlib.Core.List.{List, _++_}
 use lib.ListN.{length, drop}
-use Rattle.answer.specs.Answer.{Answer, grant, refuse}
+use Rattle.answer.specs.Answer.{Answer, grant, refuse, refusal}
+use Rattle.answer.specs.declared.Refusal.{Refusal}
 use Rattle.answer.specs.Lent.{laidOver, Does}
+use Rattle.answer.proofs.Answer.{refusal-is}
 
 module _ {A : Type 0} (answer : Answer) (given lent : List A) where
   pub laid-refused : (answer .number ≡ 0 → ⊥) → laidOver answer given lent ≡ lent
@@ -20,12 +22,16 @@ module _ {A : Type 0} (answer : Answer) (given lent : List A) where
   laid-granted e = rw (laidOver, e)
 
   -- a refusal leaves the memory
-  pub refuses : (k n p : ℕ) → answer ≡ refuse k n p → (n ≡ 0 → ⊥) → Does answer given lent lent (refuse k n p)
-  refuses k n p e z = record { answers = sym e; leaves = sym (laid-refused (λ q. z (sym (ap (λ a. a .number) e) ∙ q))) }
+  pub refuses : (k : ℕ) (r : Refusal) → answer ≡ refuse k (r .number) (r .place) → (r .number ≡ 0 → ⊥) → Does answer given lent lent (refusal k r)
+  refuses k r e z = record { answers = refusal-is k r z ∙ sym e; leaves = sym (laid-refused (λ q. z (sym (ap (λ a. a .number) e) ∙ q))) }
 
   -- what is given lies at its front
   pub grants : (values : List ℕ) → answer ≡ grant values → (after : List A) → after ≡ given ++ drop (length given) lent → Does answer given lent after (grant values)
   grants values e after q = record { answers = sym e; leaves = q ∙ sym (laid-granted (ap (λ a. a .number) e)) }
+
+-- the same by other numbers that are the answer
+pub retold : {A : Type 0} {answer r n : Answer} {given before after : List A} → Does answer given before after r → n ≡ answer → Does answer given before after n
+retold d e = record { answers = e; leaves = d .leaves }
 
 -- the same by other numbers that say the same
 pub restated : {A : Type 0} {answer r n : Answer} {given before after : List A} → n ≡ r → Does answer given before after r → Does answer given before after n

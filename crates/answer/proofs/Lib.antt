@@ -2,3 +2,4 @@ pub mod Tests
 pub mod Search
 pub mod Answer
 pub mod Lent
+pub mod Rules

@@ -3,14 +3,14 @@ use Prim.Native.Nat.{ℕ, zero, suc, _+_, _≤_, _<_}
 use native.Mathlib.Nat.{suc-ne-zero}
 use native.Mathlib.Omega.{arith}
 use native.Mathlib.Numerals.{add-one}
-use mathlib.Core.Path.{_≡_, refl, _∙_}
+use mathlib.Core.Path.{_≡_, refl, ap, _∙_}
 use mathlib.Core.Logic.{_↔_, inl, inr}
-use mathlib.Core.List.{List, [], _∷_}
+use mathlib.Core.List.{List, [], _∷_, _++_}
 use mathlib.Core.Bool.{Bool, true, false, false≢true, true≢false}
 use lib.ListN.{length, getD, take, drop, drop-of-length-le}
 use lib.Seq.{drop-cons, getD-take, length-take-le}
 use Rattle.answer.specs.Search.{must, any, hit, miss, first, keep, In}
-use Rattle.answer.proofs.Tests.{on-true, on-false, picks, or-clear, or-neither}
+use Rattle.answer.proofs.Tests.{on-true, on-false, picks, or-split, or-clear, or-neither, test, not-both}
 
 -- ---- A list of rules
 
@@ -103,6 +103,16 @@ any-none f (y ∷ l) =
       (λ h. or-neither (f y) (any f l) (h y (inl refl)) (r .1 (λ x i. h x (inr i)))),
     )
 
+-- it holds of one exactly if one in the list passes it
+pub any-some : (f : ℕ → Bool) (l : List ℕ) → any f l ≡ true → (x : ℕ) × In x l × (f x ≡ true)
+unfolding any
+any-some f [] e = absurd (false≢true e)
+any-some f (y ∷ l) e =
+    elim (or-split (f y) (any f l) e) [ inl h ↦ (y, inl refl, h) | inr h ↦ let r = any-some f l h in (r .0, inr (r .1), r .2) ]
+
+pub any-in : (f : ℕ → Bool) (l : List ℕ) (x : ℕ) → In x l → f x ≡ true → any f l ≡ true
+any-in f l x i e = elim (test (any f l)) [ inl h ↦ h | inr h ↦ absurd (not-both (f x) (any-none f l .0 h x i) e) ]
+
 -- what is found is of the list and passes the test
 pub first-hit : (f : ℕ → Bool) (l : List ℕ) (x : ℕ) → first f l ≡ hit x → In x l × (f x ≡ true)
 unfolding first
@@ -111,6 +121,19 @@ first-hit f (y ∷ l) x e =
     elim (picks (f y) (hit y) (first f l) (hit x) e) [
       | inl h ↦ let q : x ≡ y = cc in rw q (inl refl, h .0)
       | inr h ↦ let r = first-hit f l x (h .1) in (inr (r .0), r .1)
+    ]
+
+-- and it fails of each before
+pub first-split : (f : ℕ → Bool) (l : List ℕ) (x : ℕ) → first f l ≡ hit x
+    → (before : List ℕ) × (after : List ℕ) × (l ≡ before ++ (x ∷ after)) × ((y : ℕ) → In y before → f y ≡ false)
+unfolding first
+first-split f [] x e = let z : _≡_ {A = ℕ} 0 1 = cc in absurd (omega arith)
+first-split f (y ∷ l) x e =
+    elim (picks (f y) (hit y) (first f l) (hit x) e) [
+      | inl h ↦ let q : y ≡ x = cc in ([], l, ap (λ z. z ∷ l) q, λ z i. absurd i)
+      | inr h ↦
+          let r = first-split f l x (h .1) in
+          (y ∷ r .0, r .1, ap (λ z. y ∷ z) (r .2), λ z i. elim i [ inl q ↦ rw q (h .0) | inr j ↦ r .3 z j ])
     ]
 
 -- where nothing is found the test fails of each

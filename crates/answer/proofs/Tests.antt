@@ -1,11 +1,12 @@
 -- Tests taken apart into facts, and what holds of one or of every two of a list. Assumes nothing.
-use Prim.Native.Nat.{ℕ, zero, suc}
-use mathlib.Core.Path.{_≡_, refl, sym, _∙_}
+use Prim.Native.Nat.{ℕ, zero, suc, _≤_}
+use native.Mathlib.Omega.{arith}
+use mathlib.Core.Path.{_≡_, refl, sym, ap, _∙_}
 use mathlib.Core.Logic.{_↔_, _⊎_, inl, inr}
 use mathlib.Core.List.{List, [], _∷_, _++_}
-use mathlib.Core.Bool.{Bool, true, false, _&&_, _||_, true≢false, false≢true}
-use lib.Dec.{eqb}
-use borrow.Author.Tests.{eqb-true, eqb-false}
+use mathlib.Core.Bool.{Bool, true, false, not, _&&_, _||_, true≢false, false≢true}
+use lib.Dec.{leb, eqb}
+use borrow.Author.Tests.{leb-true, leb-false, eqb-true, eqb-false, not-true}
 use Rattle.answer.specs.Search.{In, Pairwise}
 
 -- ---- Tests
@@ -57,6 +58,10 @@ pub test : (b : Bool) → (b ≡ true) ⊎ (b ≡ false)
 test true = inl refl
 test false = inr refl
 
+-- a test that has to fail
+pub not-is : (b : Bool) (Fails : Type 0) → (b ≡ false) ↔ Fails → (not b ≡ true) ↔ Fails
+not-is b Fails h = ((λ e. h .0 (not-true b e)), (λ f. ap not (h .1 f)))
+
 pub not-both : (a : Bool) → a ≡ false → a ≡ true → ⊥
 not-both a e f = false≢true (sym e ∙ f)
 
@@ -65,8 +70,15 @@ pub fails : (b : Bool) → (b ≡ true → ⊥) → b ≡ false
 fails true h = absurd (h refl)
 fails false h = refl
 
+-- a fact that a test decides
+pub by-test : (b : Bool) (Holds : Type 0) → (b ≡ true) ↔ Holds → Holds ⊎ (Holds → ⊥)
+by-test b Holds t = elim (test b) [ inl e ↦ inl (t .0 e) | inr e ↦ inr (λ h. not-both b e (t .1 h)) ]
+
 pub same? : (a b : ℕ) → (a ≡ b) ⊎ (a ≡ b → ⊥)
 same? a b = elim (test (eqb a b)) [ inl e ↦ inl (eqb-true a b e) | inr e ↦ inr (eqb-false a b e) ]
+
+pub le? : (a b : ℕ) → (a ≤ b) ⊎ (a ≤ b → ⊥)
+le? a b = elim (test (leb a b)) [ inl e ↦ inl (leb-true a b e) | inr e ↦ inr (λ l. omega (arith, leb-false a b e)) ]
 
 pub zero? : (n : ℕ) → (n ≡ 0) ⊎ ((m : ℕ) × (n ≡ suc m))
 zero? zero = inl refl

@@ -2,3 +2,4 @@ pub mod Refusals
 pub mod Search
 pub mod Answer
 pub mod Lent
+pub mod Rules

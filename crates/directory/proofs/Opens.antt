@@ -9,10 +9,10 @@ use lib.ListN.{length, getD}
 use Rattle.answer.specs.Search.{Hit, first}
 use Rattle.answer.specs.Lent.{laidOver, Does}
 use Rattle.answer.proofs.Lent.{refuses}
-use Rattle.answer.specs.Answer.{Answer, grant, refuse}
+use Rattle.answer.specs.Answer.{Answer, grant, refuse, refusal}
 use Rattle.answer.specs.declared.Refusal.{Refusal}
 use Rattle.answer.proofs.Tests.{zero?}
-use Rattle.answer.proofs.Answer.{unless-passes, unless-stops, unless-passed}
+use Rattle.answer.proofs.Answer.{unless-passes, unless-stops, unless-passed, refusal-is, refusal-number, refusal-told}
 use Rattle.directory.specs.Blocks.{blocksOf}
 use Rattle.directory.specs.Slots.{slotsOf}
 use Rattle.directory.specs.Opening.{openedNumbers, refusalOf, openOf, opened}
@@ -55,6 +55,12 @@ refused-number s n p e =
     none : (bs : List ℕ) → Linked s bs → 0 ≡ length bs → ⊥
     none [] l q = l
     none (b ∷ bs) l q = omega arith
+
+-- a refusal that opening returns
+pub refusal-opens : (s : List ℕ) (r : Refusal) → openOf s ≡ refuse 3 (r .number) (r .place) → refusal 3 r ≡ openOf s
+refusal-opens s r e =
+    let m = refused-number s (r .number) (r .place) e in
+    refusal-is 3 r (λ z. suc-ne-zero (m .0) (sym (m .1) ∙ z)) ∙ sym e
 
 -- ---- The blocks that opening counts
 
@@ -103,18 +109,24 @@ module _ (s : List ℕ) (o : Opened) (answers : openedNumbers o ≡ openOf s) wh
 
   pub refused-positive : (r : Refusal) → o ≡ Refused r → refusalOf o .number ≡ 0 → ⊥
   refused-positive r e z =
-      let m = refused-number s (r .number) (r .place) (sym answers ∙ ap openedNumbers e) in
-      suc-ne-zero (m .0) (sym (m .1) ∙ sym (ap (λ x. refusalOf x .number) e) ∙ z)
+      let q : refusal 3 r ≡ openOf s = sym (ap openedNumbers e) ∙ answers in
+      let opens : openOf s .number ≡ 0 = ap (λ a. a .number) (sym q) ∙ refusal-number 3 r ∙ sym (ap (λ x. refusalOf x .number) e) ∙ z in
+      refusal-told 3 r _ (q ∙ kept-opens s (blocksOf s) (opens-kept s opens))
+
+  pub refused-answer : (r : Refusal) → o ≡ Refused r → openOf s ≡ refuse 3 (refusalOf o .number) (refusalOf o .place)
+  refused-answer r e =
+      sym answers ∙ ap openedNumbers e ∙ ap (λ x. refusal 3 (refusalOf x)) (sym e) ∙ refusal-is 3 (refusalOf o) (refused-positive r e)
 
   -- the refusal that the caller passes on
-  pub refused-is : (k : ℕ) (answer : Answer) (r : Refusal) → o ≡ Refused r → opened k s answer ≡ refuse k (refusalOf o .number) (refusalOf o .place)
-  refused-is k answer r e =
-      let q : openOf s ≡ refuse 3 (r .number) (r .place) = sym answers ∙ ap openedNumbers e in
-      let m = refused-number s (r .number) (r .place) q in
-      let z : openOf s .number ≡ 0 → ⊥ = λ z. suc-ne-zero (m .0) (sym (m .1) ∙ sym (ap (λ a. a .number) q) ∙ z) in
-      opened-stops k s answer z ∙ ap (λ a. refuse k (a .number) (a .place)) q ∙ ap (λ x. refuse k (refusalOf x .number) (refusalOf x .place)) (sym e)
+  pub refused-is : (k : ℕ) (answer : Answer) (r : Refusal) → o ≡ Refused r → (x : Refusal) → x ≡ refusalOf o → opened k s answer ≡ refusal k x
+  refused-is k answer r e x is =
+      let z = refused-positive r e in
+      let q = refused-answer r e in
+      opened-stops k s answer (λ h. z (sym (ap (λ a. a .number) q) ∙ h)) ∙ ap (λ a. refuse k (a .number) (a .place)) q
+      ∙ sym (refusal-is k (refusalOf o) z) ∙ ap (refusal k) (sym is)
 
   pub unopened-does : {A : Type 0} (k : ℕ) (answer : Answer) (given lent : List A) (r : Refusal) → o ≡ Refused r → (x : Refusal) → x ≡ refusalOf o
-      → Does (opened k s answer) given lent lent (refuse k (x .number) (x .place))
+      → Does (opened k s answer) given lent lent (refusal k x)
   unopened-does k answer given lent r e x is =
-      rw is (refuses (opened k s answer) given lent k (refusalOf o .number) (refusalOf o .place) (refused-is k answer r e) (refused-positive r e))
+      let z : x .number ≡ 0 → ⊥ = λ z. refused-positive r e (sym (ap (λ y. y .number) is) ∙ z) in
+      refuses (opened k s answer) given lent k x (refused-is k answer r e x is ∙ refusal-is k x z) z

@@ -3,7 +3,7 @@ use Prim.Native.Nat.{ℕ, _*_}
 use mathlib.Core.List.{List, [], _∷_, _++_}
 use lib.ListN.{length}
 use lib.Dec.{leb}
-use Rattle.answer.specs.Answer.{Answer, grant, refuse, inRoom}
+use Rattle.answer.specs.Answer.{Answer, grant, refusal, inRoom}
 use Rattle.answer.specs.Search.{keep}
 use Rattle.directory.specs.Slots.{tagAt, refAt, offsetAt, lengthAt, liveAt, slotsOf}
 use Rattle.directory.specs.Opening.{opened}
@@ -12,7 +12,7 @@ use Rattle.directory.specs.declared.listing.Listed.the-variants.{Element
 
 abbrev pub listedNumbers : Listed → Answer
 listedNumbers (Elements n) = grant (n ∷ [])
-listedNumbers (Refused r) = refuse 1 (r .number) (r .place)
+listedNumbers (Refused r) = refusal 1 r
 
 -- tag, reference, offset and length of a slot, as they are stored
 abbrev pub descriptor : List ℕ → ℕ → List ℕ

@@ -1,4 +1,7 @@
+pub mod Proper
 pub mod Signs
 pub mod Bits
 pub mod Tables
 pub mod TableClaims
+pub mod EditReads
+pub mod CallClaims

@@ -8,7 +8,8 @@ use Rattle.directory.specs.Lookup.{find}
 use Rattle.records.specs.Readings.{recordBytes}
 use Rattle.vhead.specs.Limits.{head-tag}
 use Rattle.vset.specs.Tails.{namesEnd}
-use Rattle.vhead.specs.Heads.{headIn, headFields, headNames, nameRows, startOf}
+use Rattle.storage.specs.Elements.{startOf}
+use Rattle.vhead.specs.Heads.{headIn, headFields, headNames, nameRows}
 use Rattle.vset.proofs.Tails.{names-split}
 use Rattle.vhead.proofs.Heads.{field-is, fieldsAfter, fields-are, row-next, row-none}
 use Rattle.hdf4.specs.FieldTable.{structsFrom, structsOf, numbersOf, namesOf}

@@ -10,6 +10,7 @@ use Rattle.directory.specs.Limits.{most-bytes}
 use Rattle.answer.specs.Lent.{laidOver}
 use Rattle.directory.specs.Lookup.{find}
 use Rattle.answer.specs.declared.Refusal.{Refusal}
+use Rattle.answer.proofs.Answer.{refusal-number, told-positive}
 use Rattle.vhead.specs.Limits.{head-tag}
 use Rattle.vhead.specs.Heads.{headIn, headNumbers, headWithin, namedField}
 use Rattle.vhead.specs.Steps.{HeadHeld}
@@ -24,6 +25,7 @@ use Rattle.hdf4.specs.Steps.{Lies, ReadsFields, fieldIn, filled}
 use Rattle.hdf4.specs.declared.vset_calls.VdataAnswer.{VdataAnswer}
 use Rattle.hdf4.specs.declared.field_table.Field.{Field}
 use Rattle.hdf4.specs.declared.field_table.Reading.{Reading}
+use Rattle.hdf4.proofs.Proper.{head-proper}
 
 -- ---- What is read of a head
 
@@ -35,7 +37,7 @@ places-fit found start size h e n = let m : NamesFit (Values start size h) = rw 
 module _ (s : List ℕ) (ref room : ℕ) where
   pub names-fit : (found : Answered) → headNumbers found ≡ headWithin s ref room → NamesFit found
   names-fit (Values start size h) e = head-names s ref room start h (sym e)
-  names-fit (Refused r) e = tt
+  names-fit (Refused r) e = told-positive 12 r (headWithin s ref room) (head-proper s ref room) e
 
   -- the answer of what was found
   module _ (a : VdataAnswer) (found : Answered) (is : vdataAnswer a ≡ headNumbers found) (answers : headNumbers found ≡ headWithin s ref room) where
@@ -57,7 +59,7 @@ module _ (s : List ℕ) (ref room : ℕ) where
           answers = is ∙ answers;
           fits = omega arith;
           lies = λ h. absurd (omega arith);
-          granted = λ q. absurd (z (sym (ap (λ y. headNumbers y .number) e) ∙ ap (λ y. y .number) answers ∙ q));
+          granted = λ q. absurd (z (sym (ap (λ y. headNumbers y .number) e ∙ refusal-number 12 x) ∙ ap (λ y. y .number) answers ∙ q));
           refused = λ _. refl;
         }
 

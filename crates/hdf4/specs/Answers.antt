@@ -1,7 +1,8 @@
 -- The structs that the C functions return, as answers: number, place, then the values in order. Assumes nothing.
 use Prim.Native.Nat.{ℕ}
+use mathlib.Core.Path.{_≡_}
 use mathlib.Core.List.{List, [], _∷_}
-use Rattle.answer.specs.Answer.{Answer}
+use Rattle.answer.specs.Answer.{Answer, Proper}
 use Rattle.answer.specs.Lent.{Does}
 use Rattle.journal.specs.Outcomes.{Outcome, outcomeAnswer, fileOf}
 use Rattle.hdf4.specs.declared.ViewAnswer.{ViewAnswer}
@@ -32,6 +33,10 @@ chooseAnswer r = record { number = r .number; place = r .place; values = r .whic
 
 abbrev pub editAnswer : EditAnswer → Answer
 editAnswer r = record { number = r .number; place = r .place; values = r .length ∷ [] }
+
+-- numbers are the answer that something of a call of one value tells, where it tells one
+abbrev pub Tells : {A : Type 0} → (A → Answer) → A → Answer → Type 0
+Tells tell x numbers = (answer : Answer) → Proper 1 answer → tell x ≡ answer → numbers ≡ answer
 
 -- an edit or an undo: its answer, and the file laid over the front of the buffer
 abbrev pub Edits : Outcome → List ℕ → List ℕ → EditAnswer → Type 0

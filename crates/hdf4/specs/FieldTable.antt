@@ -4,7 +4,8 @@ use mathlib.Core.List.{List, [], _∷_}
 use Rattle.directory.specs.Lookup.{find}
 use Rattle.records.specs.Readings.{recordBytes}
 use Rattle.vhead.specs.Limits.{head-tag}
-use Rattle.vhead.specs.Heads.{headIn, namedField, startOf}
+use Rattle.storage.specs.Elements.{startOf}
+use Rattle.vhead.specs.Heads.{headIn, namedField}
 use Rattle.vhead.specs.declared.head.NamedField.{NamedField}
 use Rattle.hdf4.specs.declared.field_table.Field.{Field}
 

@@ -8,7 +8,8 @@ use Rattle.directory.specs.Limits.{most-bytes}
 use Rattle.directory.specs.Lookup.{find}
 use Rattle.records.specs.Readings.{recordBytes}
 use Rattle.vhead.specs.Limits.{head-tag, most-fields}
-use Rattle.vhead.specs.Heads.{headIn, namedField, startOf, headWithin}
+use Rattle.storage.specs.Elements.{startOf}
+use Rattle.vhead.specs.Heads.{headIn, namedField, headWithin}
 use Rattle.hdf4.specs.VsetAnswers.{vdataAnswer}
 use Rattle.hdf4.specs.FieldTable.{fieldFrom}
 use Rattle.hdf4.specs.declared.field_table.Field.{Field}

@@ -1,5 +1,6 @@
 -- The structs that the C functions of Vgroups and Vdatas return, as answers. Assumes nothing.
 use Prim.Native.Nat.{ℕ, _+_, _≤_}
+use mathlib.Core.Path.{_≡_}
 use mathlib.Core.Bool.{not}
 use mathlib.Core.List.{[], _∷_}
 use lib.Dec.{T}
@@ -37,10 +38,10 @@ vdataAnswer r =
           ∷ r .«extension_tag» ∷ r .«extension_ref» ∷ r .version ∷ r .more ∷ [];
     }
 
--- the places of a head's name and class are places of an image
+-- the places of a head's name and class are places of an image; a refusal has a number
 abbrev pub NamesFit : Answered → Type 0
 NamesFit (Values start size h) = (start + h .tail .name ≤ most-bytes) × (start + h .tail .class ≤ most-bytes)
-NamesFit (Refused r) = Unit {0}
+NamesFit (Refused r) = r .number ≡ 0 → ⊥
 
 abbrev pub valueAnswer : ValueAnswer → Answer
 valueAnswer r = record { number = r .number; place = r .place; values = r .kind ∷ r .bits ∷ [] }

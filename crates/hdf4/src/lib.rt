@@ -22,7 +22,7 @@ ghost use Rattle.storage.specs.Copies.{copyOf, elementBytes};
 ghost use Rattle.storage.specs.Choices.{chooseOf};
 ghost use Rattle.journal.specs.Outcomes.{editedNumbers};
 ghost use Rattle.journal.specs.Buffers.{addIn, replaceIn, removeIn, undoIn};
-ghost use Rattle.hdf4.specs.Answers.{openAnswer, findAnswer, listAnswer, viewAnswer, copyAnswer, chooseAnswer, editAnswer, Edits};
+ghost use Rattle.hdf4.specs.Answers.{openAnswer, findAnswer, listAnswer, viewAnswer, copyAnswer, chooseAnswer, editAnswer, Tells, Edits};
 
 #[repr(C)]
 pub struct OpenAnswer {
@@ -217,7 +217,7 @@ pub extern "C" fn hdf4_choose(
 }
 
 fn edit_answer(edited: Edited) -> EditAnswer
-    ensures { λ r. ⌜ editAnswer r ≡ editedNumbers edited ⌝ }
+    ensures { λ r. ⌜ Tells editedNumbers edited (editAnswer r) ⌝ }
 {
     match edited {
         Edited::Granted(length) => EditAnswer {

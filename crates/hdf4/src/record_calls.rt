@@ -14,6 +14,7 @@ ghost use Rattle.records.specs.Packings.{packedNumbers, Packs};
 ghost use Rattle.records.specs.NumberTypes.{numberTypeOf, numberTypeBytes};
 ghost use Rattle.records.specs.Dimensions.{dimensionOf, dimensionBytes, dimensionPackFault};
 ghost use Rattle.records.specs.Arrays.{arrayOf, ReadsArray, arrayBytes, arrayPackFault};
+ghost use Rattle.hdf4.specs.Answers.{Tells};
 ghost use Rattle.hdf4.specs.RecordAnswers.{numberTypeAnswer, dimensionAnswer, dimensionFrom, arrayAnswer, packAnswer};
 
 #[repr(C)]
@@ -55,7 +56,7 @@ pub struct PackAnswer {
 }
 
 pub(crate) fn pack_answer(packed: Packed) -> PackAnswer
-    ensures { λ r. ⌜ packAnswer r ≡ packedNumbers packed ⌝ }
+    ensures { λ r. ⌜ Tells packedNumbers packed (packAnswer r) ⌝ }
 {
     match packed {
         Packed::Bytes(n) => PackAnswer {

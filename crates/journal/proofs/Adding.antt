@@ -1,5 +1,6 @@
 -- Where an absent element goes, and what adding it there comes to, from the answers of the code. Assumes nothing.
 use Prim.Native.Nat.{ℕ, _+_, _<_, _≤_}
+use native.Mathlib.Nat.{suc-ne-zero}
 use native.Mathlib.Omega.{arith}
 use mathlib.Core.Path.{_≡_, refl, sym, ap, _∙_}
 use mathlib.Core.Logic.{inl, inr}
@@ -124,7 +125,7 @@ module _ (l : List ℕ) (n blocks slots live : ℕ) (fits : n ≤ length l) (o :
 
       add-full : many || full ≡ true → Leaves (newIn l n tag ref content) l l (Refused (record { number = DIR-BIG; place = 0 }))
       unfolding addAt
-      add-full h = refuses l _ (ap (addAt (take n l) (length l) tag ref content) no-free ∙ on-true (many || full) _ _ h)
+      add-full h = refuses l _ (ap (addAt (take n l) (length l) tag ref content) no-free ∙ on-true (many || full) _ _ h) (suc-ne-zero 5)
 
       pub add-blocks : most-blocks ≤ blocks → Leaves (newIn l n tag ref content) l l (Refused (record { number = DIR-BIG; place = 0 }))
       add-blocks h = add-full (or-either many full (inl (le-leb most-blocks (length (blocksOf (take n l))) (omega (arith, blocks-are)))))

@@ -8,9 +8,9 @@ use native.Mathlib.Omega.{arith}
 use lib.ListN.{length, getD, length-append}
 use Rattle.wire.specs.Numbers.{bytes, put}
 use Rattle.wire.proofs.Numbers.{Same, Holds, length-bytes, be-same, be-holds}
-use Rattle.directory.specs.Limits.{most-blocks, most-slots, free-tag}
+use Rattle.directory.specs.Limits.{most-blocks, most-slots}
 use Rattle.directory.specs.Blocks.{slotCount, nextBlock, blockEnd}
-use Rattle.directory.specs.Slots.{tagAt, rows, slotPlaces}
+use Rattle.directory.specs.Slots.{rows, slotPlaces}
 use Rattle.directory.specs.Links.{lastOf}
 use Rattle.answer.specs.Search.{In, Pairwise}
 use Rattle.directory.specs.Rules.{Apart, Linked, Kept}
@@ -28,11 +28,17 @@ use Rattle.journal.proofs.Changes.{Changed, changed, next-known, change
 
 -- ---- The last block
 
-linked-last : (s : List ℕ) (d : ℕ) (bs : List ℕ) → Linked s bs → In (lastOf d bs) bs
+pub linked-last : (s : List ℕ) (d : ℕ) (bs : List ℕ) → Linked s bs → In (lastOf d bs) bs
 unfolding lastOf
 linked-last s d [] l = absurd l
 linked-last s d (b ∷ []) l = inl refl
 linked-last s d (b ∷ (c ∷ bs)) l = inr (linked-last s b (c ∷ bs) (l .1))
+
+pub linked-end : (s : List ℕ) (d : ℕ) (bs : List ℕ) → Linked s bs → nextBlock s (lastOf d bs) ≡ 0
+unfolding lastOf
+linked-end s d [] l = absurd l
+linked-end s d (b ∷ []) l = l
+linked-end s d (b ∷ (c ∷ bs)) l = linked-end s b (c ∷ bs) (l .1)
 
 linked-first : (s bs cs : List ℕ) → Linked s bs → getD (bs ++ cs) 0 0 ≡ getD bs 0 0
 linked-first s [] cs l = absurd l
@@ -51,18 +57,18 @@ linked-more s t d (b ∷ (c ∷ bs)) e same last ends p l = (
 
 -- ---- The new block
 
-frees-read : (t : List ℕ) (a k : ℕ) → Holds t a (freeSlots k) → (q : ℕ) → In q (rows a k) → tagAt t q ≡ free-tag
+frees-held : (t : List ℕ) (a k : ℕ) → Holds t a (freeSlots k) → (q : ℕ) → In q (rows a k) → Holds t q freeSlot
 unfolding freeSlots rows
-frees-read t a zero h q i = absurd i
-frees-read t a (suc k) h q (inl e) = rw e (free-reads t a (holds-left t a freeSlot (freeSlots k) h))
-frees-read t a (suc k) h q (inr i) = frees-read t (a + slot-size) k (holds-right t a slot-size freeSlot (freeSlots k) length-free h) q i
+frees-held t a zero h q i = absurd i
+frees-held t a (suc k) h q (inl e) = rw e (holds-left t a freeSlot (freeSlots k) h)
+frees-held t a (suc k) h q (inr i) = frees-held t (a + slot-size) k (holds-right t a slot-size freeSlot (freeSlots k) length-free h) q i
 
 -- a block at e of which the first slot is written and the others are free, and that ends the chain
 record BlockReads (t : List ℕ) (e : ℕ) (slot : List ℕ) : Type 0 where
   count : slotCount t e ≡ block-slots
   next : nextBlock t e ≡ 0
   slot-held : Holds t (e + 6) slot
-  others : (q : ℕ) → In q (rows (e + 6 + slot-size) 15) → tagAt t q ≡ free-tag
+  others : (q : ℕ) → In q (rows (e + 6 + slot-size) 15) → Holds t q freeSlot
 
 block-reads : (t : List ℕ) (e : ℕ) (slot : List ℕ) → length slot ≡ slot-size → Holds t e (newBlock slot) → BlockReads t e slot
 unfolding newBlock
@@ -78,7 +84,7 @@ block-reads t e slot n h =
       count = be-holds 2 t e block-slots (omega arith) h₁;
       next = be-last 4 t e 2 t₁ 0 (length-bytes 2 block-slots) (omega arith) h₂;
       slot-held = holds-right t e 6 t₂ slot (simp (length-append, length-bytes)) h₃;
-      others = rw w (frees-read t (e + 18) 15 (holds-right t e 18 t₃ (freeSlots 15) (simp (length-append, length-bytes, n)) h));
+      others = rw w (frees-held t (e + 18) 15 (holds-right t e 18 t₃ (freeSlots 15) (simp (length-append, length-bytes, n)) h));
     }
 
 rows-first : (p k q : ℕ) → In q (rows p (suc k)) → (q ≡ p) ⊎ In q (rows (p + slot-size) k)
@@ -140,6 +146,14 @@ module _ (s bs : List ℕ) (k : Kept s bs) (t slot : List ℕ) (grown : length s
             (m .apart, λ b i. inl (omega (arith, count-same b i, k .inside b i)));
       }
 
+  -- what it has besides the slots of s and the one that is written is free
+  besides : (p : ℕ) → In p (slotPlaces t (bs ++ (length s ∷ []))) → (p ≡ length s + 6 → ⊥) → In p (slotPlaces s bs) ⊎ Holds t p freeSlot
+  besides p i n =
+      elim (in-append p (slotPlaces s bs) (rows (length s + 6) block-slots) (rw places-are at i)) [
+        | inl j ↦ inl j
+        | inr j ↦ elim (rows-first (length s + 6) 15 p j) [ inl e ↦ absurd (n e) | inr h ↦ inr (new .others p h) ]
+      ]
+
   block-framed : Framed s bs t (bs ++ (length s ∷ [])) (length s + 6)
   block-framed =
       let blocks = chain-kept s bs k .blocks in
@@ -162,10 +176,7 @@ module _ (s bs : List ℕ) (k : Kept s bs) (t slot : List ℕ) (grown : length s
                 | inr h ↦ λ j l u. low j (omega arith) (omega arith)
               ]),
         );
-        others = λ p i l n. elim (in-append p (slotPlaces s bs) (rows (length s + 6) block-slots) (rw places-are at i)) [
-          | inl j ↦ j
-          | inr j ↦ elim (rows-first (length s + 6) 15 p j) [ inl e ↦ absurd (n e) | inr h ↦ absurd (l (new .others p h)) ]
-        ];
+        others = λ p i l n. elim (besides p i n) [ inl j ↦ j | inr h ↦ absurd (l (free-reads t p h .tag-is)) ];
         off = λ a e n h. elim (h b last-in) [
           | inl m ↦ λ j l u. low j (omega arith) (omega arith)
           | inr m ↦ λ j l u. high j (omega arith) (omega arith)
@@ -177,7 +188,7 @@ module _ (s bs : List ℕ) (k : Kept s bs) (t slot : List ℕ) (grown : length s
 module _ (s bs : List ℕ) (k : Kept s bs) (slot content : List ℕ) (n : length slot ≡ slot-size)
     (few : length bs < most-blocks) (room : length (slotPlaces s bs) + block-slots ≤ most-slots) where
   pub block-edit-writes : let t = blockEdit s (lastOf 4 bs) (newBlock slot) content in
-      Writes s bs t (bs ++ (length s ∷ [])) (length s + 6) slot content (length s + block-size)
+      Writes s bs t (bs ++ (length s ∷ [])) (length s + 6) slot content (length s + block-size) (lastOf 4 bs + 2) link-size
   unfolding blockEdit
   block-edit-writes =
       let b = lastOf 4 bs in
@@ -201,6 +212,9 @@ module _ (s bs : List ℕ) (k : Kept s bs) (slot content : List ℕ) (n : length
         slot-held = new .slot-held;
         content-held = holds-right t (length s) block-size (newBlock slot) content (length-block slot n) (c .more);
         size = omega (arith, c .size);
+        besides = besides s bs k t slot grown (c .low) high link new few room;
+        low = c .low;
+        high = c .high;
         after-header = omega (arith, k .headed .0);
         past = λ d i. elim (in-snoc d bs (length s) i) [
           | inl j ↦ omega (arith, count-same s bs k t slot grown (c .low) high link new few room d j, k .inside d j)

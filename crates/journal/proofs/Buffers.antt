@@ -1,31 +1,40 @@
 -- The laws of calls on a buffer: what each leaves, from its outcome, and what the edits come to, from what they meet in the image.
 -- Assumes nothing.
-use Prim.Native.Nat.{ℕ, zero, suc, _<_, _≤_}
+use Prim.Native.Nat.{ℕ, zero, suc, _+_, _-_, _<_, _≤_}
 use mathlib.Core.Path.{_≡_, refl, sym, ap, _∙_}
+use mathlib.Core.Bool.{Bool, true, false, _&&_, _||_}
 use mathlib.Core.List.{List, [], _++_}
+use native.Mathlib.Nat.{suc-ne-zero}
 use native.Mathlib.Omega.{arith}
 use lib.ListN.{length, take, drop}
 use lib.Seq.{length-take-le}
+use lib.Dec.{leb, ltb}
 use borrow.Author.Tests.{le-leb, lt-leb}
-use Rattle.answer.specs.Refusals.{TOO-LONG, PRESENT, ABSENT}
+use Rattle.answer.proofs.Answer.{refusal-is}
+use Rattle.answer.specs.Refusals.{TOO-LONG, ABSENT, PRESENT}
 use Rattle.answer.specs.Answer.{refuse}
 use Rattle.answer.specs.Lent.{laidOver}
-use Rattle.answer.specs.Search.{hit, miss}
+use Rattle.answer.specs.Search.{Hit, hit, miss}
 use Rattle.answer.specs.declared.Refusal.{Refusal}
-use Rattle.directory.specs.Limits.{most-bytes, free-tag}
+use Rattle.directory.specs.Limits.{most-bytes, most-blocks, most-slots, free-tag}
+use Rattle.directory.specs.Blocks.{blocksOf}
+use Rattle.directory.specs.Slots.{slotsOf}
+use Rattle.directory.specs.Links.{lastOf}
 use Rattle.directory.proofs.Rules.{opens-kept}
 use Rattle.directory.specs.Opening.{openedNumbers, refusalOf, openOf}
 use Rattle.directory.specs.declared.Opened.{Opened}
 use Rattle.directory.specs.declared.Opened.the-variants.{Accepted, Refused as Closed}
 use Rattle.directory.specs.Lookup.{find}
 use Rattle.journal.specs.Outcomes.{Outcome, granted, refused, openedTo, editedNumbers}
-use Rattle.journal.specs.Edits.{tagged, freeSlot, dataSlot, dataOffset, slotEdit, fitted, addOf, replaceOf, removeOf}
-use Rattle.journal.specs.Undos.{undoOf}
+use Rattle.journal.specs.Edits.{block-slots, block-size, newBlock, blockEdit, tagged, freeSlot, dataSlot, dataOffset, slotEdit, fitted, firstFree, addAt, addOf, replaceOf, removeOf}
+use Rattle.journal.specs.Undos.{restored, known, sound, undoTo, undoOf}
+use Rattle.journal.specs.Trailers.{trailer-size, trailerAt, carries}
+use Rattle.journal.specs.declared.change.Change.{Change}
 use Rattle.journal.specs.Buffers.{imageIn, addIn, replaceIn, removeIn, undoIn, Leaves}
 use Rattle.journal.specs.Steps.Changes.{OpensIn, Editable, slotIn, newIn}
 use Rattle.journal.specs.declared.Edited.{Edited}
 use Rattle.journal.specs.declared.Edited.the-variants.{Granted, Refused}
-use Rattle.journal.proofs.Outcomes.{opened-stops, tagged-good}
+use Rattle.journal.proofs.Outcomes.{Positive, positive-granted, positive-refused, positive-passing, positive-opened, positive-tagged, opened-stops, tagged-good}
 
 -- ---- What a call leaves, from its outcome
 
@@ -34,8 +43,8 @@ unfolding laidOver
 laid-kept zero place l = refl
 laid-kept (suc number) place l = refl
 
-pub refuses : {o : Outcome} (l : List ℕ) (r : Refusal) → o ≡ refused (r .number) (r .place) → Leaves o l l (Refused r)
-refuses l r e = rw e (record { answers = refl; leaves = sym (laid-kept (r .number) (r .place) l) })
+pub refuses : {o : Outcome} (l : List ℕ) (r : Refusal) → o ≡ refused (r .number) (r .place) → (r .number ≡ 0 → ⊥) → Leaves o l l (Refused r)
+refuses l r e z = rw e (record { answers = refusal-is 1 r z; leaves = sym (laid-kept (r .number) (r .place) l) })
 
 pub grants : {o : Outcome} (l after file : List ℕ) (size : ℕ) → o ≡ granted file → size ≡ length file → after ≡ file ++ drop (length file) l
     → Leaves o l after (Granted size)
@@ -47,6 +56,19 @@ pub leaves-same : {o p : Outcome} (l after : List ℕ) (r : Edited) → o ≡ p 
 leaves-same l after r e d = rw e d
 
 -- ---- The image in the buffer
+
+pub positive-image : (l : List ℕ) (n : ℕ) (o : Outcome) → Positive o → Positive (imageIn l n o)
+unfolding imageIn
+positive-image l n o h = go (leb n (length l))
+  where
+    go : (b : Bool) → Positive (elim b [ false ↦ refused TOO-LONG 0 | true ↦ o ])
+    go false = positive-refused TOO-LONG 0 (suc-ne-zero 0)
+    go true = h
+
+-- a refusal whatever comes after has a number
+pub stop-positive : (wrap : Outcome → Outcome) → ((o : Outcome) → Positive o → Positive (wrap o)) → (r : Refusal)
+    → ((rest : Outcome) → wrap rest ≡ refused (r .number) (r .place)) → r .number ≡ 0 → ⊥
+stop-positive wrap keeps r stop = keeps (granted []) (positive-granted []) .told (r .number) (r .place) (stop (granted []))
 
 pub inside : (l : List ℕ) (n : ℕ) (o : Outcome) → n ≤ length l → imageIn l n o ≡ o
 unfolding imageIn
@@ -82,7 +104,8 @@ module _ (l : List ℕ) (n : ℕ) where
 pub edit-stops : (l : List ℕ) (n tag : ℕ) (rest : Outcome) (r : Refusal)
     → ((rest : Outcome) → imageIn l n (tagged (take n l) tag rest) ≡ refused (r .number) (r .place))
     → Leaves (imageIn l n (tagged (take n l) tag rest)) l l (Refused r)
-edit-stops l n tag rest r stop = refuses l r (stop rest)
+edit-stops l n tag rest r stop =
+    refuses l r (stop rest) (stop-positive (λ o. imageIn l n (tagged (take n l) tag o)) (λ o h. positive-image l n _ (positive-tagged (take n l) tag o h)) r stop)
 
 module _ (l : List ℕ) (n tag : ℕ) (m : Editable l n tag) (ref : ℕ) where
   here : (rest : Outcome) → imageIn l n (tagged (take n l) tag rest) ≡ rest
@@ -91,7 +114,7 @@ module _ (l : List ℕ) (n tag : ℕ) (m : Editable l n tag) (ref : ℕ) where
   module _ (p : ℕ) (there : find (take n l) tag ref ≡ hit p) where
     pub add-present : (content : List ℕ) → Leaves (addIn l n tag ref content) l l (Refused (record { number = PRESENT; place = 0 }))
     unfolding addIn addOf
-    add-present content = refuses l _ (here _ ∙ rw there)
+    add-present content = refuses l _ (here _ ∙ rw there) (suc-ne-zero 17)
 
     pub replace-there : (content after : List ℕ) (r : Edited) → Leaves (slotIn l n p tag ref content) l after r → Leaves (replaceIn l n tag ref content) l after r
     unfolding replaceIn replaceOf
@@ -110,8 +133,61 @@ module _ (l : List ℕ) (n tag : ℕ) (m : Editable l n tag) (ref : ℕ) where
 
     pub replace-absent : (content : List ℕ) → Leaves (replaceIn l n tag ref content) l l (Refused (record { number = ABSENT; place = 0 }))
     unfolding replaceIn replaceOf
-    replace-absent content = refuses l _ (here _ ∙ rw none)
+    replace-absent content = refuses l _ (here _ ∙ rw none) (suc-ne-zero 10)
 
     pub remove-absent : Leaves (removeIn l n tag ref) l l (Refused (record { number = ABSENT; place = 0 }))
     unfolding removeIn removeOf
-    remove-absent = refuses l _ (here _ ∙ rw none)
+    remove-absent = refuses l _ (here _ ∙ rw none) (suc-ne-zero 10)
+
+-- ---- No refusal has the number 0
+
+-- of two outcomes that a test picks
+either : (b : Bool) (o q : Outcome) → Positive o → Positive q → Positive (elim b [ true ↦ o | false ↦ q ])
+either true o q h k = h
+either false o q h k = k
+
+positive-fitted : (capacity : ℕ) (file : List ℕ) → Positive (fitted capacity file)
+unfolding fitted
+positive-fitted capacity file = positive-passing _ 0 (granted file) (positive-granted file)
+
+positive-at : (s : List ℕ) (capacity tag ref : ℕ) (content : List ℕ) (w : Hit) → Positive (addAt s capacity tag ref content w)
+unfolding addAt
+positive-at s capacity tag ref content (hit p) = positive-fitted capacity _
+positive-at s capacity tag ref content miss =
+    let file = blockEdit s (lastOf 4 (blocksOf s)) (newBlock (dataSlot tag ref content (length s + block-size))) content in
+    either (leb most-blocks (length (blocksOf s)) || ltb most-slots (length (slotsOf s) + block-slots)) (refused 6 0) (fitted capacity file)
+    (positive-refused 6 0 (suc-ne-zero 5)) (positive-fitted capacity file)
+
+module _ (l : List ℕ) (n tag ref : ℕ) where
+  pub add-positive : (content : List ℕ) → Positive (addIn l n tag ref content)
+  unfolding addIn addOf
+  add-positive content = positive-image l n _ (positive-tagged (take n l) tag _ (go (find (take n l) tag ref)))
+    where
+      go : (f : Hit) → Positive (elim f [ hit p ↦ refused PRESENT 0 | miss ↦ addAt (take n l) (length l) tag ref content (firstFree (take n l)) ])
+      go (hit p) = positive-refused 18 0 (suc-ne-zero 17)
+      go miss = positive-at (take n l) (length l) tag ref content (firstFree (take n l))
+
+  -- an edit of an element that has to be there
+  changed : (make : ℕ → List ℕ) (f : Hit) → Positive (elim f [ hit p ↦ fitted (length l) (make p) | miss ↦ refused ABSENT 0 ])
+  changed make (hit p) = positive-fitted (length l) (make p)
+  changed make miss = positive-refused 11 0 (suc-ne-zero 10)
+
+  pub replace-positive : (content : List ℕ) → Positive (replaceIn l n tag ref content)
+  unfolding replaceIn replaceOf
+  replace-positive content = positive-image l n _ (positive-tagged (take n l) tag _ (changed _ (find (take n l) tag ref)))
+
+  pub remove-positive : Positive (removeIn l n tag ref)
+  unfolding removeIn removeOf
+  remove-positive = positive-image l n _ (positive-tagged (take n l) tag _ (changed _ (find (take n l) tag ref)))
+
+positive-to : (s : List ℕ) (t : ℕ) (c : Change) → Positive (undoTo s t c)
+unfolding undoTo
+positive-to s t c =
+    either (known s t c && sound (c .previous) (restored s c)) (granted (restored s c)) (refused 21 t) (positive-granted (restored s c)) (positive-refused 21 t (suc-ne-zero 20))
+
+pub undo-positive : (l : List ℕ) (n : ℕ) → Positive (undoIn l n)
+unfolding undoIn undoOf
+undo-positive l n =
+    let s = take n l in
+    let t = length s - trailer-size in
+    positive-image l n _ (positive-opened s _ (either (carries s) (undoTo s t (trailerAt s t)) (refused 20 0) (positive-to s t (trailerAt s t)) (positive-refused 20 0 (suc-ne-zero 19))))

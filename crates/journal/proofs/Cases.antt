@@ -3,6 +3,7 @@ use mathlib.Core.Path.{_≡_, refl}
 use mathlib.Core.List.{map}
 use Rattle.wire.specs.Numbers.{be, bytes, put, part}
 use Rattle.wire.specs.Layouts.{read, pack}
+use Rattle.answer.specs.Lent.{laidOver}
 use Rattle.answer.specs.Search.{must, any, first}
 use Rattle.directory.specs.Blocks.{meets, meetsBlock, onDirectory, blockFault, chainFrom, chain, blocksOf}
 use Rattle.directory.specs.Slots.{rows, slotPlaces, slotsOf, liveAt, baseTag, sizeAt, clash, elementFault, slotFault}
@@ -14,9 +15,10 @@ use Rattle.journal.specs.Outcomes.{passing, openedTo}
 use Rattle.journal.specs.Trailers.{trailerAt, trailerBytes, carries, previousOf, pastFirst, oldBytes}
 use Rattle.journal.specs.Edits.{slotBytes, freeSlot, freeSlots, newBlock, dataOffset, dataSlot, slotEdit, blockEdit, fitFault, fitted, badTag, tagged, addAt, addOf}
 use Rattle.journal.specs.Undos.{restored, placeKnown, known, opens, sound, undoTo, undoOf}
-use Rattle.journal.specs.History.{edited, below, decided, pushed, popped, historyAfter, historyAfterAll, historyAnswers}
-use Rattle.journal.specs.Cases.{A-added, markedCases}
+use Rattle.journal.specs.Buffers.{imageIn, addIn, undoIn}
+use Rattle.journal.specs.History.{edited, below, decided, pushed, popped, historyAfter, historyAfterAll, historyAnswers, outcome, sizeAfter, left, stateAfter, stateAfterAll, answers}
+use Rattle.journal.specs.Cases.{A-added, A-added-twice, markedCases}
 
 pub marked-cases : map (λ (r : Row). r .computed) markedCases ≡ map (λ (r : Row). r .paper) markedCases
-unfolding be bytes put part read pack must any first meets meetsBlock onDirectory blockFault chainFrom chain blocksOf rows slotPlaces slotsOf liveAt baseTag sizeAt clash elementFault slotFault slotsFrom openChain headed openOf has find lastOf four-bytes A openingCases passing openedTo trailerAt trailerBytes carries previousOf pastFirst oldBytes slotBytes freeSlot freeSlots newBlock dataOffset dataSlot slotEdit blockEdit fitFault fitted badTag tagged addAt addOf restored placeKnown known opens sound undoTo undoOf edited below decided pushed popped historyAfter historyAfterAll historyAnswers A-added markedCases
+unfolding be bytes put part read pack must any first meets meetsBlock onDirectory blockFault chainFrom chain blocksOf rows slotPlaces slotsOf liveAt baseTag sizeAt clash elementFault slotFault slotsFrom openChain headed openOf has find lastOf four-bytes A openingCases passing openedTo trailerAt trailerBytes carries previousOf pastFirst oldBytes slotBytes freeSlot freeSlots newBlock dataOffset dataSlot slotEdit blockEdit fitFault fitted badTag tagged addAt addOf restored placeKnown known opens sound undoTo undoOf edited below decided pushed popped historyAfter historyAfterAll historyAnswers laidOver imageIn addIn undoIn outcome sizeAfter left stateAfter stateAfterAll answers A-added A-added-twice markedCases
 marked-cases = refl

@@ -2,9 +2,9 @@
 -- Assumes nothing.
 use Prim.Native.Nat.{ℕ, _+_, _-_, _≤_, _<_}
 use mathlib.Core.Path.{_≡_, refl, ap, _∙_}
-use mathlib.Core.Logic.{inl, inr}
+use mathlib.Core.Logic.{inl}
 use mathlib.Core.List.{List, _++_}
-use mathlib.Core.Bool.{Bool, true}
+use mathlib.Core.Bool.{true}
 use native.Mathlib.Omega.{arith}
 use lib.ListN.{length, getD, take, length-append}
 use lib.Seq.{length-take-le, getD-take}
@@ -12,9 +12,9 @@ use lib.Dec.{eqb}
 use borrow.Author.Tests.{le-leb, eq-eqb}
 use Rattle.wire.specs.Numbers.{put, Bytes}
 use Rattle.wire.proofs.Numbers.{Same, Holds, length-put, put-holds}
-use Rattle.answer.specs.Search.{any, In}
-use Rattle.answer.proofs.Tests.{and-both, or-either, on-true, test, not-both}
-use Rattle.answer.proofs.Search.{any-none}
+use Rattle.answer.specs.Search.{In}
+use Rattle.answer.proofs.Tests.{and-both, or-either, on-true}
+use Rattle.answer.proofs.Search.{any-in}
 use Rattle.directory.specs.Limits.{most-bytes}
 use Rattle.directory.specs.Blocks.{blocksOf}
 use Rattle.directory.specs.Slots.{slotsOf}
@@ -62,9 +62,6 @@ changed s q k vs extra n fits short few =
     )
 
 -- ---- Places that undo accepts
-
-any-in : (f : ℕ → Bool) (l : List ℕ) (x : ℕ) → In x l → f x ≡ true → any f l ≡ true
-any-in f l x i e = elim (test (any f l)) [ inl h ↦ h | inr h ↦ absurd (not-both (f x) (any-none f l .0 h x i) e) ]
 
 -- a slot
 pub slot-known : (s t : List ℕ) (q : ℕ) → In q (slotsOf t) → placeKnown t (changeAt s q slot-size) ≡ true

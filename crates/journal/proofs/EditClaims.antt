@@ -8,6 +8,7 @@ use lib.ListN.{length}
 use Rattle.wire.specs.Numbers.{part}
 use Rattle.answer.specs.Refusals.{ABSENT}
 use Rattle.answer.specs.Answer.{refuse}
+use Rattle.directory.specs.Blocks.{blocksOf}
 use Rattle.directory.specs.Slots.{tagAt, offsetAt, sizeAt, elementEnd, contentAt, slotsOf}
 use Rattle.directory.specs.Opening.{openOf}
 use Rattle.directory.specs.Lookup.{findOf}
@@ -15,13 +16,14 @@ use Rattle.answer.specs.Search.{In}
 use Rattle.directory.specs.Rules.{Live}
 use Rattle.directory.specs.Named.{Named}
 use Rattle.answer.proofs.Tests.{same?, zero?}
-use Rattle.directory.proofs.Rules.{opens-kept, kept-blocks}
+use Rattle.directory.proofs.Rules.{opens-kept, kept-blocks, chain-kept}
 use Rattle.directory.proofs.Claims.{find-finds, find-found, find-absent}
 use Rattle.journal.specs.Outcomes.{granted}
 use Rattle.journal.specs.Edits.{addOf, replaceOf, removeOf}
 use Rattle.journal.specs.History.{Edit, add, replace, remove, edit, Typed, edited}
-use Rattle.journal.specs.EditRules.{ReadsBack, PairKept, tagOf, refOf, contentOf, OtherPair, lengthAfter}
+use Rattle.journal.specs.EditRules.{ReadsBack, PairKept, tagOf, refOf, contentOf, OtherPair, TakesSlot, OneSlot, Alters, lengthAfter}
 use Rattle.journal.proofs.Parts.{part-same}
+use Rattle.journal.proofs.Spacing.{slot-inside}
 use Rattle.journal.proofs.Written.{filled-content}
 use Rattle.journal.proofs.Edits.{Made, Fills, made, made-opens, added, replaced, removed}
 
@@ -90,7 +92,7 @@ reads-back s capacity e t f =
     record {
       slot = m .slot;
       found = find-finds t (tagOf e) (refOf e) (m .slot) (made-opens m) (m .after (f .filled .live));
-      tag-is = f .filled .tag-is;
+      tag-is = f .filled .reads .tag-is;
       content-is = filled-content t (m .slot) (tagOf e) (refOf e) (contentOf e) (f .at) (f .filled);
     }
 
@@ -121,6 +123,31 @@ removed-absent s capacity tag ref t e =
 pub others-kept : (s : List ℕ) (capacity : ℕ) (e : Edit) (t : List ℕ) → Typed (edit e) → edited capacity e s ≡ granted t
     → (tag ref : ℕ) → OtherPair e tag ref → PairKept s t tag ref
 others-kept s capacity e t y g = pair-kept s capacity e t (made s capacity e t y g)
+
+-- the edit writes one slot: which it is, what it holds, and that every other slot has its twelve bytes as before
+pub descriptors-stand : (s : List ℕ) (capacity : ℕ) (e : Edit) (t : List ℕ) → Typed (edit e) → edited capacity e s ≡ granted t
+    → (q : ℕ) × OneSlot s t e q
+unfolding slotsOf
+descriptors-stand s capacity e t y g =
+    let m = made s capacity e t y g in
+    let k = opens-kept s (m .opened) in
+    let places = kept-blocks t (m .blocks) (m .kept) in (
+      m .slot,
+      record {
+        takes = m .takes;
+        there = rw places (m .here);
+        holds = m .holds;
+        others = λ p i d.
+            let x = m .framed .stays p i d in
+            (rw places (x .0), part-same s t p 12 (slot-inside s (blocksOf s) (chain-kept s (blocksOf s) k .blocks) p i .1) (m .framed .grown) (x .1 .bytes));
+        besides = λ p i d. m .besides p (rw places at i) d;
+      },
+    )
+
+-- and alters the bytes of that slot, or of one next field, and no others of the file
+pub bytes-stand : (s : List ℕ) (capacity : ℕ) (e : Edit) (t : List ℕ) → Typed (edit e) → edited capacity e s ≡ granted t
+    → (q : ℕ) × TakesSlot s e q × ((at : ℕ) × (count : ℕ) × Alters s t q at count)
+bytes-stand s capacity e t y g = let m = made s capacity e t y g in (m .slot, m .takes, m .alters)
 
 -- the file after a granted edit opens
 pub stays-accepted : (s : List ℕ) (capacity : ℕ) (e : Edit) (t : List ℕ) → Typed (edit e) → edited capacity e s ≡ granted t

@@ -2,7 +2,7 @@
 -- Assumes nothing.
 use Prim.Native.Nat.{ℕ, _+_, _≤_, _<_}
 use mathlib.Core.Path.{_≡_, refl, sym, ap, _∙_}
-use mathlib.Core.Logic.{inl, inr}
+use mathlib.Core.Logic.{_⊎_, inl, inr}
 use mathlib.Core.List.{List, [], _∷_, _++_}
 use mathlib.Core.Bool.{not, _||_}
 use native.Mathlib.Omega.{arith}
@@ -13,8 +13,8 @@ use Rattle.wire.specs.Numbers.{Bytes}
 use Rattle.directory.specs.Limits.{most-bytes, most-blocks, most-slots, free-tag}
 use Rattle.answer.specs.Refusals.{DIR-BIG, ABSENT, PRESENT}
 use Rattle.answer.specs.Search.{Hit, hit, miss, In}
-use Rattle.directory.specs.Blocks.{blocksOf}
-use Rattle.directory.specs.Slots.{tagAt, liveAt, slotsOf}
+use Rattle.directory.specs.Blocks.{nextBlock, blocksOf}
+use Rattle.directory.specs.Slots.{tagAt, liveAt, slotPlaces, slotsOf}
 use Rattle.directory.specs.Opening.{openOf}
 use Rattle.directory.specs.Links.{lastOf}
 use Rattle.directory.specs.Lookup.{find}
@@ -27,20 +27,22 @@ use Rattle.directory.proofs.Rules.{opens-kept, kept-blocks, kept-opens, chain-k
 use Rattle.directory.proofs.Named.{found-named, missed-named, named-once}
 use Rattle.journal.specs.Outcomes.{Outcome, granted, refused}
 use Rattle.journal.specs.Trailers.{trailer-size}
-use Rattle.journal.specs.Edits.{block-slots, block-size, firstFree, freeSlot, newBlock, dataSlot, slotEdit, blockEdit, fitted, addAt, addOf, replaceOf, removeOf}
+use Rattle.journal.specs.Edits.{block-slots, block-size, firstFree, freeSlot, newBlock, dataOffset, dataSlot, slotEdit, blockEdit, fitted, addAt, addOf, replaceOf, removeOf}
 use Rattle.journal.specs.Undos.{undoOf}
 use Rattle.journal.specs.Buffers.{undoIn}
 use Rattle.journal.specs.History.{Edit, add, replace, remove, edit, Typed, edited}
-use Rattle.journal.specs.EditRules.{tagOf, refOf, contentOf, addedAt, lengthAfter}
+use Rattle.journal.specs.EditRules.{tagOf, refOf, contentOf, SlotIs, TakesSlot, HoldsPair, HoldsEdit, Alters, addedAt, lengthAfter}
+use Rattle.journal.specs.Rules.{NoneFree}
 use Rattle.journal.proofs.AllBytes.{bytes-free, bytes-data, bytes-slot-edit, bytes-block-edit}
 use Rattle.journal.proofs.Spacing.{slot-inside}
 use Rattle.journal.proofs.Frames.{Framed}
 use Rattle.journal.proofs.Outcomes.{refused-granted, hit-picks, Taken, tagged-granted, fitted-granted}
 use Rattle.journal.proofs.Buffers.{undo-here}
-use Rattle.journal.proofs.Runs.{length-free, length-data}
+use Rattle.journal.proofs.Runs.{length-free, length-data, offset-empty, offset-full}
 use Rattle.journal.proofs.Written.{free-reads, Filled, Writes, freed-kept, writes-filled, filled-kept}
 use Rattle.journal.proofs.SlotEdits.{slot-edit-writes}
-use Rattle.journal.proofs.BlockEdits.{block-edit-writes}
+use Rattle.journal.proofs.BlockEdits.{linked-last, linked-end, block-edit-writes}
+use Rattle.journal.proofs.Rules.{none-free, first-free}
 
 -- ---- What an edit makes
 
@@ -59,6 +61,11 @@ pub record Made (s : List ℕ) (capacity : ℕ) (e : Edit) (t : List ℕ) : Type
   pub before : In slot (slotsOf s) → Live s slot → Named s (tagOf e) (refOf e) slot
   pub only : (p : ℕ) → Named s (tagOf e) (refOf e) p → p ≡ slot
   pub after : Live t slot → Named t (tagOf e) (refOf e) slot
+  pub here : In slot (slotPlaces t blocks)
+  pub takes : TakesSlot s e slot
+  pub holds : HoldsEdit t e slot
+  pub besides : (p : ℕ) → In p (slotPlaces t blocks) → (p ≡ slot → ⊥) → In p (slotsOf s) ⊎ SlotIs t p 1 0 0 0
+  pub alters : (at : ℕ) × (count : ℕ) × Alters s t slot at count
 
 -- that slot is filled with the edit's content, which stands at a place
 pub record Fills (s : List ℕ) (capacity : ℕ) (e : Edit) (t : List ℕ) : Type 0 where
@@ -73,9 +80,15 @@ pub record Frees (s : List ℕ) (capacity : ℕ) (e : Edit) (t : List ℕ) : Typ
 
 module _ (s : List ℕ) (capacity : ℕ) (e : Edit) (u t cs : List ℕ) (q : ℕ) (opens : openOf s .number ≡ 0) (granting : fitted capacity u ≡ granted t)
     (before : In q (slotsOf s) → Live s q → Named s (tagOf e) (refOf e) q) (only : (p : ℕ) → Named s (tagOf e) (refOf e) p → p ≡ q) where
-  makes : (slot content : List ℕ) (at : ℕ) → Writes s (blocksOf s) u cs q slot content at → Kept u cs → lengthAfter s e ≡ at + length content + trailer-size
-      → (Bytes s → Bytes (contentOf e) → Bytes u) → (Live u q → Named u (tagOf e) (refOf e) q) → Made s capacity e u
-  makes slot content at w kept size bytes after =
+  -- what the edit alters, by what it writes
+  abbrev Which : ℕ → ℕ → Type 0
+  Which at count = ((at ≡ q) × (count ≡ 12)) ⊎ (NoneFree s × (count ≡ 4) × ((b : ℕ) × In b (blocksOf s) × (nextBlock s b ≡ 0) × (at ≡ b + 2)))
+
+  makes : (slot content : List ℕ) (at place count : ℕ) → Writes s (blocksOf s) u cs q slot content at place count → Kept u cs → lengthAfter s e ≡ at + length content + trailer-size
+      → (Bytes s → Bytes (contentOf e) → Bytes u) → (Live u q → Named u (tagOf e) (refOf e) q) → TakesSlot s e q → HoldsEdit u e q → Which place count
+      → Made s capacity e u
+  unfolding slotsOf
+  makes slot content at place count w kept size bytes after takes holds which =
       record {
         blocks = cs;
         slot = q;
@@ -89,50 +102,67 @@ module _ (s : List ℕ) (capacity : ℕ) (e : Edit) (u t cs : List ℕ) (q : ℕ
         before = before;
         only = only;
         after = after;
+        here = w .here;
+        takes = takes;
+        holds = holds;
+        besides = λ p i n. elim (w .besides p i n) [ inl j ↦ inl j | inr h ↦ inr (free-reads u p h) ];
+        alters = (
+          place,
+          count,
+          record { which = which; before = λ i l. w .low i (omega arith) l; after = λ i l h. w .high i l h },
+        );
       }
 
-  fills : (at : ℕ) → Writes s (blocksOf s) u cs q (dataSlot (tagOf e) (refOf e) (contentOf e) at) (contentOf e) at → Taken (tagOf e)
+  fills : (at place count : ℕ) → Writes s (blocksOf s) u cs q (dataSlot (tagOf e) (refOf e) (contentOf e) at) (contentOf e) at place count → Taken (tagOf e)
       → tagOf e < 65536 → refOf e < 65536 → lengthAfter s e ≡ at + length (contentOf e) + trailer-size → (Bytes s → Bytes (contentOf e) → Bytes u)
-      → Fills s capacity e t
+      → TakesSlot s e q → (HoldsPair u q (tagOf e) (refOf e) (contentOf e) → HoldsEdit u e q) → Which place count → Fills s capacity e t
   unfolding slotsOf makes
-  fills at w taken b₁ b₂ size bytes =
+  fills at place count w taken b₁ b₂ size bytes takes as-edit which =
       let g = fitted-granted capacity u t granting in
-      let f = writes-filled s (blocksOf s) u cs q (tagOf e) (refOf e) (contentOf e) at w (g .0) taken b₁ b₂ in
-      let kept = filled-kept s (blocksOf s) u cs q (tagOf e) (refOf e) (contentOf e) at w (g .0) taken b₁ b₂ (opens-kept s opens)
+      let content = contentOf e in
+      let f = writes-filled s (blocksOf s) u cs q (tagOf e) (refOf e) content at place count w (g .0) taken b₁ b₂ in
+      let kept = filled-kept s (blocksOf s) u cs q (tagOf e) (refOf e) content at place count w (g .0) taken b₁ b₂ (opens-kept s opens)
       (λ p i n l x r. n (only p (record { slot = i; live = l; tag = x ∙ sym (taken .base); reference = r }))) in
+      let pair : HoldsPair u q (tagOf e) (refOf e) content =
+      (dataOffset content at, f .reads, offset-empty content at, λ z. omega (arith, offset-full content at (λ n. omega arith), w .size)) in
       rw (← g .2) (record {
-        made = makes _ _ at w kept size bytes (λ l. record {
+        made = makes _ _ at place count w kept size bytes (λ l. record {
           slot = rw (kept-blocks u cs kept) (w .here);
           live = l;
           tag = f .base-is ∙ sym (taken .base);
-          reference = f .ref-is;
-        });
+          reference = f .reads .ref-is;
+        }) takes (as-edit pair) which;
         at = at;
         filled = f;
       })
 
-  frees : Writes s (blocksOf s) u cs q freeSlot [] (length s) → lengthAfter s e ≡ length s + 0 + trailer-size → (Bytes s → Bytes u) → Frees s capacity e t
+  frees : (place count : ℕ) → Writes s (blocksOf s) u cs q freeSlot [] (length s) place count → lengthAfter s e ≡ length s + 0 + trailer-size → (Bytes s → Bytes u)
+      → TakesSlot s e q → (SlotIs u q 1 0 0 0 → HoldsEdit u e q) → Which place count → Frees s capacity e t
   unfolding makes
-  frees w size bytes =
+  frees place count w size bytes takes as-edit which =
       let g = fitted-granted capacity u t granting in
       let free = free-reads u q (w .slot-held) in
-      let kept = freed-kept s (blocksOf s) u cs q (length s) (opens-kept s opens) w (g .0) in
-      rw (← g .2) (record { made = makes _ _ (length s) w kept size (λ h c. bytes h) (λ l. absurd (l free)); free = free })
+      let kept = freed-kept s (blocksOf s) u cs q (length s) place count (opens-kept s opens) w (g .0) in
+      rw (← g .2) (record {
+        made = makes _ _ (length s) place count w kept size (λ h c. bytes h) (λ l. absurd (l (free .tag-is))) takes (as-edit free) which;
+        free = free .tag-is;
+      })
 
 -- ---- Each edit
 
 -- a slot of the file is filled
 fill-slot : (s : List ℕ) (capacity : ℕ) (e : Edit) (t : List ℕ) (q : ℕ) → openOf s .number ≡ 0 → Taken (tagOf e) → tagOf e < 65536 → refOf e < 65536
     → In q (slotsOf s) → (Live s q → Named s (tagOf e) (refOf e) q) → ((p : ℕ) → Named s (tagOf e) (refOf e) p → p ≡ q)
-    → lengthAfter s e ≡ length s + length (contentOf e) + trailer-size
+    → lengthAfter s e ≡ length s + length (contentOf e) + trailer-size → TakesSlot s e q
+    → ((u : List ℕ) → HoldsPair u q (tagOf e) (refOf e) (contentOf e) → HoldsEdit u e q)
     → fitted capacity (slotEdit s q (dataSlot (tagOf e) (refOf e) (contentOf e) (length s)) (contentOf e)) ≡ granted t → Fills s capacity e t
 unfolding slotsOf
-fill-slot s capacity e t q opens taken b₁ b₂ i before only size g =
+fill-slot s capacity e t q opens taken b₁ b₂ i before only size takes as-edit g =
     let content = contentOf e in
     let slot = dataSlot (tagOf e) (refOf e) content (length s) in
-    fills s capacity e (slotEdit s q slot content) t (blocksOf s) q opens g (λ j. before) only (length s)
+    fills s capacity e (slotEdit s q slot content) t (blocksOf s) q opens g (λ j. before) only (length s) q 12
     (slot-edit-writes s (blocksOf s) (opens-kept s opens) q i slot content (length-data (tagOf e) (refOf e) content (length s))) taken b₁ b₂ size
-    (λ h c. bytes-slot-edit s q slot content h (bytes-data (tagOf e) (refOf e) content (length s)) c)
+    (λ h c. bytes-slot-edit s q slot content h (bytes-data (tagOf e) (refOf e) content (length s)) c) takes (as-edit _) (inl (refl, refl))
 
 pub replaced : (s : List ℕ) (capacity tag ref : ℕ) (content t : List ℕ) → tag < 65536 → ref < 65536 → replaceOf s capacity tag ref content ≡ granted t
     → Fills s capacity (replace tag ref content) t
@@ -145,7 +175,7 @@ replaced s capacity tag ref content t b₁ b₂ e =
       | inl h ↦
           let n = found-named s tag ref (h .0) (h .1) in
           fill-slot s capacity (replace tag ref content) t (h .0) (g .0) (g .1) b₁ b₂ (n .slot) (λ l. n)
-          (λ p m. named-once s tag ref p (h .0) (g .0) m n) refl (h .2)
+          (λ p m. named-once s tag ref p (h .0) (g .0) m n) refl n (λ u x. x) (h .2)
     ]
 
 pub removed : (s : List ℕ) (capacity tag ref : ℕ) (t : List ℕ) → removeOf s capacity tag ref ≡ granted t → Frees s capacity (remove tag ref) t
@@ -159,17 +189,18 @@ removed s capacity tag ref t e =
           let q = h .0 in
           let n = found-named s tag ref q (h .1) in
           frees s capacity (remove tag ref) (slotEdit s q freeSlot []) t (blocksOf s) q (g .0) (h .2) (λ i l. n)
-          (λ p m. named-once s tag ref p q (g .0) m n)
+          (λ p m. named-once s tag ref p q (g .0) m n) q 12
           (slot-edit-writes s (blocksOf s) (opens-kept s (g .0)) q (n .slot) freeSlot [] length-free) (omega arith)
-          (λ x. bytes-slot-edit s q freeSlot [] x bytes-free (λ i. omega arith))
+          (λ x. bytes-slot-edit s q freeSlot [] x bytes-free (λ i. omega arith)) n (λ x. x) (inl (refl, refl))
     ]
 
 -- the first slot of a new block is filled
 fill-block : (s : List ℕ) (capacity : ℕ) (e : Edit) (t : List ℕ) → openOf s .number ≡ 0 → Taken (tagOf e) → tagOf e < 65536 → refOf e < 65536
     → find s (tagOf e) (refOf e) ≡ miss → lengthAfter s e ≡ length s + block-size + length (contentOf e) + trailer-size
+    → TakesSlot s e (length s + 6) → ((u : List ℕ) → HoldsPair u (length s + 6) (tagOf e) (refOf e) (contentOf e) → HoldsEdit u e (length s + 6)) → NoneFree s
     → addAt s capacity (tagOf e) (refOf e) (contentOf e) miss ≡ granted t → Fills s capacity e t
 unfolding addAt slotsOf
-fill-block s capacity e t opens taken b₁ b₂ f size g =
+fill-block s capacity e t opens taken b₁ b₂ f size takes as-edit none g =
     let content = contentOf e in
     let at = length s + block-size in
     let slot = dataSlot (tagOf e) (refOf e) content at in
@@ -183,20 +214,22 @@ fill-block s capacity e t opens taken b₁ b₂ f size g =
           let c = or-clear many full (r .0) in
           fills s capacity e u t (blocksOf s ++ (length s ∷ [])) (length s + 6) opens (r .1)
           (λ i l. let h = slot-inside s (blocksOf s) (chain-kept s (blocksOf s) k .blocks) (length s + 6) i in absurd (omega arith))
-          (λ p m. absurd (missed-named s (tagOf e) (refOf e) p f m)) at
+          (λ p m. absurd (missed-named s (tagOf e) (refOf e) p f m)) at _ 4
           (block-edit-writes s (blocksOf s) k slot content (length-data (tagOf e) (refOf e) content at) (leb-false _ _ (c .0)) (ltb-false _ _ (c .1)))
           taken b₁ b₂ size (λ h d. bytes-block-edit s (lastOf 4 (blocksOf s)) slot content h (bytes-data (tagOf e) (refOf e) content at) d)
+          takes (as-edit _) (inr (none, refl, (lastOf 4 (blocksOf s), linked-last s 4 (blocksOf s) (k .linked), linked-end s 4 (blocksOf s) (k .linked), refl)))
     ]
 
 add-at : (s : List ℕ) (capacity tag ref : ℕ) (content t : List ℕ) (w : Hit) → firstFree s ≡ w → openOf s .number ≡ 0 → Taken tag → tag < 65536
     → ref < 65536 → find s tag ref ≡ miss → addAt s capacity tag ref content w ≡ granted t → Fills s capacity (add tag ref content) t
 unfolding addAt addedAt lengthAfter
 add-at s capacity tag ref content t miss i opens taken b₁ b₂ f g =
-    fill-block s capacity (add tag ref content) t opens taken b₁ b₂ f (rw i) g
+    fill-block s capacity (add tag ref content) t opens taken b₁ b₂ f (rw i) (inr (none-free s i, refl)) (λ u x. x) (none-free s i) g
 add-at s capacity tag ref content t (hit q) i opens taken b₁ b₂ f g =
     let h = first-hit (λ p. not (liveAt s p)) (slotsOf s) q i in
     fill-slot s capacity (add tag ref content) t q opens taken b₁ b₂ (h .0)
-    (λ l. absurd (not-both (liveAt s q) (not-true _ (h .1)) (live-is s q .1 l))) (λ p m. absurd (missed-named s tag ref p f m)) (rw i) g
+    (λ l. absurd (not-both (liveAt s q) (not-true _ (h .1)) (live-is s q .1 l))) (λ p m. absurd (missed-named s tag ref p f m)) (rw i)
+    (inl (first-free s q i)) (λ u x. x) g
 
 pub added : (s : List ℕ) (capacity tag ref : ℕ) (content t : List ℕ) → tag < 65536 → ref < 65536 → addOf s capacity tag ref content ≡ granted t
     → Fills s capacity (add tag ref content) t

@@ -27,6 +27,7 @@ pub record SlotSame (s t : List ℕ) (p : ℕ) : Type 0 where
   pub ref : refAt t p ≡ refAt s p
   pub offset : offsetAt t p ≡ offsetAt s p
   pub size : sizeAt t p ≡ sizeAt s p
+  pub bytes : Same s t p (p + slot-size)
 
 pub slot-same : (s t : List ℕ) (p : ℕ) → Same s t p (p + slot-size) → SlotSame s t p
 unfolding sizeAt
@@ -38,6 +39,7 @@ slot-same s t p h =
       ref = be-same 2 s t (p + 2) (λ i l u. h i (omega arith) (omega arith));
       offset = be-same 4 s t (p + 4) (λ i l u. h i (omega arith) (omega arith));
       size = ap₂ (λ (x y : ℕ). elim (eqb (baseTag x) lone-tag) [ true ↦ 0 | false ↦ y ]) a n;
+      bytes = h;
     }
 
 pub places-same : (s t bs : List ℕ) → ((b : ℕ) → In b bs → slotCount t b ≡ slotCount s b) → slotPlaces t bs ≡ slotPlaces s bs

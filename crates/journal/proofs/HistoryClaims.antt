@@ -2,12 +2,14 @@
 use Prim.Native.Nat.{ℕ, _≤_}
 use mathlib.Core.Path.{_≡_, refl, sym, ap, _∙_}
 use mathlib.Core.List.{List, [], _∷_}
-use lib.ListN.{length, take}
+use lib.ListN.{length, take, drop}
+use lib.Seq.{drop-append-seam}
 use Rattle.wire.specs.Numbers.{Bytes}
+use Rattle.answer.specs.Lent.{laidOver}
 use Rattle.directory.specs.Opening.{openOf}
 use Rattle.journal.specs.Outcomes.{granted, refused, outcomeAnswer}
 use Rattle.journal.specs.Undos.{undoOf}
-use Rattle.journal.specs.History.{Call, undo, Typed, AllTyped, History, started, below, decided, popped, historyAfter, historyAfterAll, State, outcome, stateAfter, stateAfterAll, Agrees}
+use Rattle.journal.specs.History.{Call, undo, Typed, AllTyped, History, started, below, decided, popped, historyAfter, historyAfterAll, State, outcome, left, stateAfter, stateAfterAll, Agrees}
 use Rattle.journal.proofs.Outcomes.{refused-granted}
 use Rattle.journal.proofs.History.{Follows, left-refused, step-keeps, reached}
 
@@ -25,9 +27,9 @@ undo-alone : (capacity : ℕ) (h : History) → h .under ≡ []
 unfolding decided historyAfter below popped
 undo-alone capacity h e = (rw e, λ file q. rw (e, q))
 
--- ---- After any calls on a file that opens: the state m and the history h
+-- ---- After any calls: the state m and the history h
 
-module _ (buffer : List ℕ) (n : ℕ) (bytes : Bytes buffer) (inside : n ≤ length buffer) (opens : openOf (take n buffer) .number ≡ 0)
+module _ (buffer : List ℕ) (n : ℕ) (bytes : Bytes buffer) (inside : n ≤ length buffer)
     (calls : List Call) (typed : AllTyped calls) where
   abbrev m : State
   m = stateAfterAll calls (record { buffer = buffer; size = n })
@@ -35,19 +37,19 @@ module _ (buffer : List ℕ) (n : ℕ) (bytes : Bytes buffer) (inside : n ≤ le
   abbrev h : History
   h = historyAfterAll (length buffer) calls (started (take n buffer))
 
-  follows : Follows (length buffer) m h
-  follows = reached buffer n bytes inside opens calls typed
+  follows : Follows (openOf (take n buffer) .number ≡ 0) (length buffer) m h
+  follows = reached buffer n bytes inside calls typed
 
   -- whatever is called next, its answer is the history's, and then the length and the bytes are again the top file's
   pub every-call : (c : Call) → Typed c → (outcomeAnswer (outcome c m) ≡ outcomeAnswer (decided (length buffer) c h))
       × Agrees (stateAfter c m) (historyAfter (length buffer) c h)
-  every-call c y = let k = step-keeps (length buffer) m h follows c y in (ap outcomeAnswer (k .0), k .1 .agrees)
+  every-call c y = let k = step-keeps _ (length buffer) m h follows c y in (ap outcomeAnswer (k .0), k .1 .agrees)
 
   -- with an edit not yet cancelled, undo is granted, and the file below the top is then the buffer's
   pub undo-cancels : (file : List ℕ) (files : List (List ℕ)) → h .under ≡ file ∷ files
       → (outcome undo m ≡ granted file) × Agrees (stateAfter undo m) (record { top = file; under = files })
   undo-cancels file files e =
-      let k = step-keeps (length buffer) m h follows undo tt in
+      let k = step-keeps _ (length buffer) m h follows undo tt in
       let p = undo-pops (length buffer) h file files e in
       (k .0 ∙ p .0, rw (p .1) at (k .1 .agrees))
 
@@ -64,15 +66,20 @@ module _ (buffer : List ℕ) (n : ℕ) (bytes : Bytes buffer) (inside : n ≤ le
       × ((file : List ℕ) → undoOf (h .top) ≡ granted file
       → (historyAfter (length buffer) undo h ≡ started file) × Agrees (stateAfter undo m) (started file))
   undo-of-start e =
-      let k = step-keeps (length buffer) m h follows undo tt in
+      let k = step-keeps _ (length buffer) m h follows undo tt in
       let p = undo-alone (length buffer) h e in
       (k .0 ∙ p .0, λ file q. (p .1 file q, rw (p .1 file q) at (k .1 .agrees)))
 
-  -- the file in the buffer opens
-  pub stays-open : openOf (take (m .size) (m .buffer)) .number ≡ 0
-  stays-open = rw (follows .agrees .bytes) (follows .opens)
+  -- the file in the buffer opens if the start file does
+  pub stays-open : openOf (take n buffer) .number ≡ 0 → openOf (take (m .size) (m .buffer)) .number ≡ 0
+  stays-open opens = rw (follows .agrees .bytes) (follows .opens opens)
 
 -- ---- In any state
+
+-- the bytes past the end of the file that a granted call makes stay as they were
+pub past-end-stays : (m : State) (c : Call) (t : List ℕ) → outcome c m ≡ granted t → drop (length t) (stateAfter c m .buffer) ≡ drop (length t) (m .buffer)
+unfolding stateAfter left laidOver
+past-end-stays m c t e = rw e (drop-append-seam t (drop (length t) (m .buffer)))
 
 -- a refused call leaves the buffer and the size as they were
 pub refusal-alters-nothing : (m : State) (c : Call) (number place : ℕ) → outcome c m ≡ refused number place → stateAfter c m ≡ m

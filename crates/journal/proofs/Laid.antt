@@ -37,7 +37,7 @@ module _ (l : List ℕ) (n p : ℕ) (vs tail file : List ℕ) (fit : n ≤ lengt
 
   module _ (size : ℕ) (is : n + length tail ≡ size) where
     tail-refused : (k : ℕ) → k ≡ fitFault (length l) size → (k ≡ 0 → ⊥) → Leaves (fitted (length l) file) l l (Refused (record { number = k; place = 0 }))
-    tail-refused k q z = refuses l _ (fitted-fault (length l) file size (file-long ∙ is) k q z)
+    tail-refused k q z = refuses l _ (fitted-fault (length l) file size (file-long ∙ is) k q z) z
 
     tail-granted : fitFault (length l) size ≡ 0 → (after : List ℕ) → after ≡ put (put l n tail) p vs → Leaves (fitted (length l) file) l after (Granted size)
     tail-granted q after a =

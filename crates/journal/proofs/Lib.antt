@@ -13,6 +13,8 @@ pub mod BlockEdits
 pub mod Edits
 pub mod EditClaims
 pub mod Buffers
+pub mod Rules
+pub mod RuleClaims
 pub mod History
 pub mod HistoryClaims
 pub mod Cases

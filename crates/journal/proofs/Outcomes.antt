@@ -1,15 +1,15 @@
 -- The laws of outcomes: a refusal or what the call goes on to, what it tells that a call was granted, and an edit's tag and room. Assumes nothing.
-use Prim.Native.Nat.{ℕ, _<_, _≤_}
+use Prim.Native.Nat.{ℕ, zero, suc, _<_, _≤_}
 use mathlib.Core.Path.{_≡_, refl, sym, ap, _∙_}
 use mathlib.Core.Logic.{_↔_, _⊎_, inl, inr}
 use mathlib.Core.List.{List}
-use mathlib.Core.Bool.{true, false, _&&_, _||_}
+use mathlib.Core.Bool.{Bool, true, false, _&&_, _||_}
+use native.Mathlib.Nat.{suc-ne-zero}
 use native.Mathlib.Omega.{arith}
 use lib.ListN.{length}
 use lib.Dec.{leb, eqb}
 use borrow.Author.Tests.{leb-true, leb-false, le-leb, lt-leb, eqb-true, eqb-false, eq-eqb, ne-eqb}
 use Rattle.answer.specs.Refusals.{TOO-LONG, BAD-TAG, NO-ROOM}
-use Rattle.answer.specs.Answer.{refuse}
 use Rattle.answer.specs.Search.{Hit, hit, miss}
 use Rattle.answer.specs.declared.Refusal.{Refusal}
 use Rattle.answer.proofs.Tests.{or-clear, and-fails, on-false, picks, zero?, same?}
@@ -24,7 +24,7 @@ use Rattle.directory.specs.declared.Counts.{Counts}
 use Rattle.directory.specs.declared.Opened.{Opened}
 use Rattle.directory.specs.declared.Opened.the-variants.{Accepted, Refused}
 use Rattle.directory.specs.declared.Found.the-variants.{At, Missing}
-use Rattle.directory.proofs.Opens.{accepted-with, opened-find, refused-positive}
+use Rattle.directory.proofs.Opens.{accepted-with, opened-find, refused-positive, refused-answer}
 use Rattle.journal.specs.Outcomes.{Outcome, granted, refused, passing, openedTo}
 use Rattle.journal.specs.Undos.{opens}
 use Rattle.journal.specs.Edits.{fitFault, fitted, badTag, tagged}
@@ -60,11 +60,11 @@ module _ (s : List ℕ) (blocks tag ref : ℕ) (o : Opens s blocks) (f : Found) 
 -- ---- Rules first
 
 module _ (n place : ℕ) (o : Outcome) where
-  passing-goes : n ≡ 0 → passing n place o ≡ o
+  pub passing-goes : n ≡ 0 → passing n place o ≡ o
   unfolding passing
   passing-goes e = ap (λ m. passing m place o) e
 
-  passing-stops : (n ≡ 0 → ⊥) → passing n place o ≡ refused n place
+  pub passing-stops : (n ≡ 0 → ⊥) → passing n place o ≡ refused n place
   unfolding passing
   passing-stops h = elim (zero? n) [ inl z ↦ absurd (h z) | inr m ↦ rw (m .1) ]
 
@@ -74,6 +74,34 @@ module _ (n place : ℕ) (o : Outcome) where
         | inl z ↦ (z, sym (passing-goes z) ∙ e)
         | inr h ↦ absurd (refused-granted n place t (sym (passing-stops h) ∙ e))
       ]
+
+-- ---- Refusals have numbers
+
+pub record Positive (o : Outcome) : Type 0 where
+  pub told : (number place : ℕ) → o ≡ refused number place → number ≡ 0 → ⊥
+
+pub positive-granted : (t : List ℕ) → Positive (granted t)
+positive-granted t = record { told = λ number place e. absurd (refused-granted number place t (sym e)) }
+
+pub positive-refused : (number place : ℕ) → (number ≡ 0 → ⊥) → Positive (refused number place)
+positive-refused number place z = record { told = λ n p e q. z (let same : number ≡ n = cc in same ∙ q) }
+
+pub positive-passing : (n place : ℕ) (o : Outcome) → Positive o → Positive (passing n place o)
+unfolding passing
+positive-passing zero place o h = h
+positive-passing (suc n) place o h = positive-refused (suc n) place (suc-ne-zero n)
+
+pub positive-opened : (s : List ℕ) (o : Outcome) → Positive o → Positive (openedTo s o)
+unfolding openedTo
+positive-opened s o h = positive-passing _ _ o h
+
+pub positive-tagged : (s : List ℕ) (tag : ℕ) (o : Outcome) → Positive o → Positive (tagged s tag o)
+unfolding tagged
+positive-tagged s tag o h = positive-opened s _ (go (badTag tag))
+  where
+    go : (b : Bool) → Positive (elim b [ true ↦ refused BAD-TAG 0 | false ↦ o ])
+    go true = positive-refused BAD-TAG 0 (suc-ne-zero 6)
+    go false = h
 
 -- ---- Opening first
 
@@ -95,11 +123,8 @@ module _ (s : List ℕ) (o : Opened) (answers : openedNumbers o ≡ openOf s) wh
   opens-yes c e = opens-true s .1 (accepted-with s o answers c e .sound)
 
   module _ (r : Refusal) (e : o ≡ Refused r) where
-    refusal-is : openOf s ≡ refuse 3 (refusalOf o .number) (refusalOf o .place)
-    refusal-is = sym answers ∙ rw e
-
     closed : openOf s .number ≡ 0 → ⊥
-    closed z = refused-positive s o answers r e (sym (ap (λ a. a .number) refusal-is) ∙ z)
+    closed z = refused-positive s o answers r e (sym (ap (λ a. a .number) (refused-answer s o answers r e)) ∙ z)
 
     pub opens-no : opens s ≡ false
     unfolding opens
@@ -108,7 +133,7 @@ module _ (s : List ℕ) (o : Opened) (answers : openedNumbers o ≡ openOf s) wh
     -- the refusal that a call passes on, whatever comes after
     pub opened-stops : (rest : Outcome) → openedTo s rest ≡ refused (refusalOf o .number) (refusalOf o .place)
     unfolding openedTo
-    opened-stops rest = passing-stops _ _ rest closed ∙ ap (λ a. refused (a .number) (a .place)) refusal-is
+    opened-stops rest = passing-stops _ _ rest closed ∙ ap (λ a. refused (a .number) (a .place)) (refused-answer s o answers r e)
 
 -- ---- An edit's tag
 

@@ -1,5 +1,6 @@
 -- Undo step by step: what refuses it, then the old bytes put back and, where the restored image is not sound, the present ones again. Assumes nothing.
 use Prim.Native.Nat.{ℕ, _-_, _≤_}
+use native.Mathlib.Nat.{suc-ne-zero}
 use native.Mathlib.Omega.{arith}
 use mathlib.Core.Path.{_≡_, sym, ap, _∙_}
 use mathlib.Core.List.{List, _++_}
@@ -22,18 +23,19 @@ use Rattle.journal.specs.declared.change.Change.{Change}
 use Rattle.journal.specs.declared.Edited.{Edited}
 use Rattle.journal.specs.declared.Edited.the-variants.{Granted, Refused}
 use Rattle.journal.proofs.Parts.{part-front, put-undone}
-use Rattle.journal.proofs.Outcomes.{openedTo-goes}
+use Rattle.journal.proofs.Outcomes.{positive-opened, openedTo-goes}
 use Rattle.journal.proofs.Trailers.{carried-long, old-there, length-old}
 use Rattle.journal.proofs.Undos.{Known, known-is, length-restored, put-restored}
-use Rattle.journal.proofs.Buffers.{refuses, grants, leaves-same, image-short, undo-here}
+use Rattle.journal.proofs.Buffers.{refuses, stop-positive, positive-image, grants, leaves-same, image-short, undo-here}
 
 -- ---- Undo before it writes
 
 -- opening's refusal
 pub undo-closed : (l : List ℕ) (n : ℕ) (r : Refusal) → ((rest : Outcome) → imageIn l n (openedTo (take n l) rest) ≡ refused (r .number) (r .place))
-    → Leaves (undoIn l n) l l (Refused r)
+    → (x : Refusal) → x ≡ r → Leaves (undoIn l n) l l (Refused x)
 unfolding undoIn undoOf
-undo-closed l n r stop = refuses l r (stop _)
+undo-closed l n r stop x is =
+    rw is (refuses l r (stop _) (stop-positive (λ o. imageIn l n (openedTo (take n l) o)) (λ o h. positive-image l n _ (positive-opened (take n l) o h)) r stop))
 
 pub undo-leaves : (l : List ℕ) (n : ℕ) → n ≤ length l → (after : List ℕ) (r : Edited) → Leaves (undoOf (take n l)) l after r → Leaves (undoIn l n) l after r
 undo-leaves l n fits after r d = leaves-same l after r (undo-here l n fits) d
@@ -41,7 +43,7 @@ undo-leaves l n fits after r d = leaves-same l after r (undo-here l n fits) d
 pub undo-none : (l : List ℕ) (n : ℕ) → n ≤ length l → openOf (take n l) .number ≡ 0 → carries (take n l) ≡ false
     → Leaves (undoIn l n) l l (Refused (record { number = NO-EDIT; place = 0 }))
 unfolding undoOf
-undo-none l n fits opens h = refuses l _ (undo-here l n fits ∙ openedTo-goes (take n l) _ opens ∙ on-false (carries (take n l)) _ _ h)
+undo-none l n fits opens h = refuses l _ (undo-here l n fits ∙ openedTo-goes (take n l) _ opens ∙ on-false (carries (take n l)) _ _ h) (suc-ne-zero 19)
 
 pub image-least : (l : List ℕ) (n : ℕ) → n ≤ length l → carries (take n l) ≡ true → trailer-size ≤ n
 image-least l n fits carried = omega (arith, carried-long (take n l) carried, length-take-le n l fits)
@@ -54,7 +56,7 @@ module _ (l : List ℕ) (n : ℕ) (c : Change) (w : Carrying l n c) where
   pub undo-unknown : known (take n l) (n - trailer-size) c ≡ false
       → Leaves (undoIn l n) l l (Refused (record { number = BAD-TRAILER; place = n - trailer-size }))
   unfolding undoTo
-  undo-unknown h = refuses l _ (undo-here l n (w .fits) ∙ undo-is ∙ on-false _ _ _ (ap (λ b. b && sound (c .previous) (restored (take n l) c)) h))
+  undo-unknown h = refuses l _ (undo-here l n (w .fits) ∙ undo-is ∙ on-false _ _ _ (ap (λ b. b && sound (c .previous) (restored (take n l) c)) h)) (suc-ne-zero 20)
 
   pub known-low : known (take n l) (n - trailer-size) c ≡ true → c .place ≤ most-bytes
   known-low h = let k = known-is (take n l) _ c h in omega (arith, image-short l n (w .fits) (w .opens))
@@ -122,4 +124,4 @@ module _ (l : List ℕ) (n : ℕ) (present change : Change) (w : Restorable l n 
         e ∙ ap (λ c. put l₁ (c .place) (oldBytes present)) (w .now) ∙ ap (put l₁ (change .place)) (present-is all)
         ∙ ap (λ x. put x (change .place) (part l (change .place) (change .altered))) wrote
         ∙ put-undone l (change .place) (change .altered) (oldBytes change) (omega (arith, w .trail .fits)) (length-old change (k .size)) in
-        rw back (refuses l _ (judged false h))
+        rw back (refuses l _ (judged false h) (suc-ne-zero 20))

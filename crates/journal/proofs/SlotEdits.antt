@@ -77,7 +77,7 @@ module _ (s bs : List ℕ) (k : Kept s bs) (q : ℕ) (here : In q (slotPlaces s 
 -- ---- The edit
 
 module _ (s bs : List ℕ) (k : Kept s bs) (q : ℕ) (here : In q (slotPlaces s bs)) (slot content : List ℕ) (n : length slot ≡ slot-size) where
-  pub slot-edit-writes : Writes s bs (slotEdit s q slot content) bs q slot content (length s)
+  pub slot-edit-writes : Writes s bs (slotEdit s q slot content) bs q slot content (length s) q slot-size
   unfolding slotsOf slotEdit
   slot-edit-writes =
       let t = slotEdit s q slot content in
@@ -92,6 +92,9 @@ module _ (s bs : List ℕ) (k : Kept s bs) (q : ℕ) (here : In q (slotPlaces s 
         slot-held = made .1;
         content-held = c .more;
         size = c .size;
+        besides = λ p i n. inl (rw same at i);
+        low = c .low;
+        high = c .high;
         after-header = k .headed .0;
         past = λ b i. omega (arith, count-same s bs k q here t grown (c .low) (c .high) b i, k .inside b i);
         back = λ all before m.

@@ -139,7 +139,7 @@ module _ (s : List ℕ) (all : Bytes s) (short : length s ≤ most-bytes) (p k :
 
 -- ---- Old bytes
 
-slot-old : (s : List ℕ) (p : ℕ) → Bytes s → p + slot-size ≤ length s → bytes 4 (be 4 s p) ++ bytes 4 (be 4 s (p + 4)) ++ bytes 4 (be 4 s (p + 8)) ≡ part s p slot-size
+pub slot-old : (s : List ℕ) (p : ℕ) → Bytes s → p + slot-size ≤ length s → bytes 4 (be 4 s p) ++ bytes 4 (be 4 s (p + 4)) ++ bytes 4 (be 4 s (p + 8)) ≡ part s p slot-size
 slot-old s p b h =
     let two : part s p 8 ≡ part s p 4 ++ part s (p + 4) 4 = part-add s p 4 4 in
     let three : part s p 12 ≡ part s p 8 ++ part s (p + 8) 4 = part-add s p 8 4 in

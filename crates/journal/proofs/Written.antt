@@ -1,16 +1,16 @@
 -- A slot as an edit writes it, as it is read: free, or filled with an element whose data stands past all blocks. Assumes nothing.
 use Prim.Native.Nat.{ℕ, _+_, _^_, _≤_, _<_}
 use mathlib.Core.Path.{_≡_, refl, sym, _∙_}
-use mathlib.Core.Logic.{inl, inr}
+use mathlib.Core.Logic.{_⊎_, inl, inr}
 use mathlib.Core.List.{List, [], _∷_, _++_}
 use native.Mathlib.Omega.{arith}
 use lib.ListN.{length, length-append}
 use borrow.Author.Tests.{ne-eqb}
 use Rattle.wire.specs.Numbers.{bytes, part, Bytes}
-use Rattle.wire.proofs.Numbers.{Holds, length-bytes, be-holds}
+use Rattle.wire.proofs.Numbers.{Same, Holds, length-bytes, be-holds}
 use Rattle.directory.specs.Limits.{most-bytes, free-tag, lone-tag}
 use Rattle.directory.specs.Blocks.{blockEnd}
-use Rattle.directory.specs.Slots.{tagAt, refAt, offsetAt, lengthAt, baseTag, sizeAt, contentAt, slotPlaces}
+use Rattle.directory.specs.Slots.{tagAt, refAt, offsetAt, baseTag, sizeAt, contentAt, slotPlaces}
 use Rattle.directory.specs.Opening.{openOf}
 use Rattle.answer.specs.Search.{In}
 use Rattle.directory.specs.Rules.{Live, ElementKept, Clashing, Kept}
@@ -18,6 +18,7 @@ use Rattle.answer.proofs.Tests.{on-false, same?}
 use Rattle.journal.specs.Outcomes.{granted}
 use Rattle.journal.specs.Trailers.{trailer-size}
 use Rattle.journal.specs.Undos.{undoOf}
+use Rattle.journal.specs.EditRules.{SlotIs}
 use Rattle.journal.specs.Edits.{slotBytes, freeSlot, dataOffset, dataSlot}
 use Rattle.journal.proofs.Parts.{holds-left, be-last, part-held}
 use Rattle.journal.proofs.Runs.{offset-empty, offset-full}
@@ -26,15 +27,8 @@ use Rattle.journal.proofs.Outcomes.{Taken}
 
 -- ---- The twelve bytes
 
--- the slot at q as it is read
-record SlotReads (t : List ℕ) (q tag ref offset size : ℕ) : Type 0 where
-  tag-read : tagAt t q ≡ tag
-  ref-read : refAt t q ≡ ref
-  offset-read : offsetAt t q ≡ offset
-  length-read : lengthAt t q ≡ size
-
 slot-reads : (t : List ℕ) (q tag ref offset size : ℕ) → tag < 256 ^ 2 → ref < 256 ^ 2 → offset < 256 ^ 4 → size < 256 ^ 4
-    → Holds t q (slotBytes tag ref offset size) → SlotReads t q tag ref offset size
+    → Holds t q (slotBytes tag ref offset size) → SlotIs t q tag ref offset size
 unfolding slotBytes
 slot-reads t q tag ref offset size b₁ b₂ b₃ b₄ h =
     let t₁ = bytes 2 tag in
@@ -44,17 +38,17 @@ slot-reads t q tag ref offset size b₁ b₂ b₃ b₄ h =
     let h₂ = holds-left t q t₂ (bytes 4 offset) h₃ in
     let h₁ = holds-left t q t₁ (bytes 2 ref) h₂ in
     record {
-      tag-read = be-holds 2 t q tag b₁ h₁;
-      ref-read = be-last 2 t q 2 t₁ ref (length-bytes 2 tag) b₂ h₂;
-      offset-read = be-last 4 t q 4 t₂ offset (simp (length-append, length-bytes)) b₃ h₃;
-      length-read = be-last 4 t q 8 t₃ size (simp (length-append, length-bytes)) b₄ h;
+      tag-is = be-holds 2 t q tag b₁ h₁;
+      ref-is = be-last 2 t q 2 t₁ ref (length-bytes 2 tag) b₂ h₂;
+      offset-is = be-last 4 t q 4 t₂ offset (simp (length-append, length-bytes)) b₃ h₃;
+      length-is = be-last 4 t q 8 t₃ size (simp (length-append, length-bytes)) b₄ h;
     }
 
 -- ---- A free slot
 
-pub free-reads : (t : List ℕ) (q : ℕ) → Holds t q freeSlot → tagAt t q ≡ free-tag
+pub free-reads : (t : List ℕ) (q : ℕ) → Holds t q freeSlot → SlotIs t q free-tag 0 0 0
 unfolding freeSlot
-free-reads t q h = slot-reads t q free-tag 0 0 0 (omega arith) (omega arith) (omega arith) (omega arith) h .tag-read
+free-reads t q h = slot-reads t q free-tag 0 0 0 (omega arith) (omega arith) (omega arith) (omega arith) h
 
 -- ---- A filled slot
 
@@ -64,10 +58,9 @@ offset-le content at =
 
 -- the slot at q has the tag and the reference, and its element is the content, which stands at a place
 pub record Filled (t : List ℕ) (q tag ref : ℕ) (content : List ℕ) (at : ℕ) : Type 0 where
-  pub tag-is : tagAt t q ≡ tag
+  pub reads : SlotIs t q tag ref (dataOffset content at) (length content)
   pub live : Live t q
   pub base-is : baseTag (tagAt t q) ≡ tag
-  pub ref-is : refAt t q ≡ ref
   pub size-is : sizeAt t q ≡ length content
   pub offset-is : 0 < length content → offsetAt t q ≡ at
   pub held : Holds t at content
@@ -78,14 +71,13 @@ filled : (t : List ℕ) (q tag ref : ℕ) (content : List ℕ) (at : ℕ) → Ta
 unfolding dataSlot sizeAt
 filled t q tag ref content at taken b₁ b₂ b₃ h held inside =
     let r = slot-reads t q tag ref (dataOffset content at) (length content) b₁ b₂ (omega (arith, offset-le content at)) (omega arith) h in
-    let base : baseTag (tagAt t q) ≡ tag = rw (r .tag-read) (taken .base) in
+    let base : baseTag (tagAt t q) ≡ tag = rw (r .tag-is) (taken .base) in
     record {
-      tag-is = r .tag-read;
-      live = λ e. taken .not-free (sym (r .tag-read) ∙ e);
+      reads = r;
+      live = λ e. taken .not-free (sym (r .tag-is) ∙ e);
       base-is = base;
-      ref-is = r .ref-read;
-      size-is = on-false _ _ _ (ne-eqb _ lone-tag (λ e. taken .not-lone (sym base ∙ e))) ∙ r .length-read;
-      offset-is = λ z. r .offset-read ∙ offset-full content at (λ e. omega arith);
+      size-is = on-false _ _ _ (ne-eqb _ lone-tag (λ e. taken .not-lone (sym base ∙ e))) ∙ r .length-is;
+      offset-is = λ z. r .offset-is ∙ offset-full content at (λ e. omega arith);
       held = held;
       inside = inside;
     }
@@ -106,7 +98,7 @@ module _ (t : List ℕ) (q tag ref : ℕ) (content : List ℕ) (at : ℕ) (f : F
       let z : 0 < sizeAt t q → offsetAt t q ≡ at = λ h. f .offset-is (rw (f .size-is) at h) in
       record {
         tag = rw (f .base-is) (taken .not-zero);
-        not-free = rw (f .tag-is) (taken .not-extended-free);
+        not-free = rw (f .reads .tag-is) (taken .not-extended-free);
         inside = λ h. omega (arith, z h, f .size-is, f .inside);
         after-header = λ h. omega (arith, z h);
         off-blocks = λ h b i. inr (omega (arith, z h, past b i));
@@ -116,13 +108,13 @@ module _ (t : List ℕ) (q tag ref : ℕ) (content : List ℕ) (at : ℕ) (f : F
   filled-clash : (p : ℕ) → Taken tag → Clashing t p q → (baseTag (tagAt t p) ≡ tag) × (refAt t p ≡ ref)
   filled-clash p taken c = (
     c .0 ∙ f .base-is,
-    elim (c .1) [ inl e ↦ absurd (taken .not-lone (sym (f .base-is) ∙ (sym (c .0) ∙ e))) | inr e ↦ e ∙ f .ref-is ],
+    elim (c .1) [ inl e ↦ absurd (taken .not-lone (sym (f .base-is) ∙ (sym (c .0) ∙ e))) | inr e ↦ e ∙ f .reads .ref-is ],
   )
 
 -- ---- A file with such a slot
 
 -- t, whose blocks stand at cs, is s with a slot written at q and content at a place past all blocks; undo makes s of it if it opens
-pub record Writes (s bs t cs : List ℕ) (q : ℕ) (slot content : List ℕ) (at : ℕ) : Type 0 where
+pub record Writes (s bs t cs : List ℕ) (q : ℕ) (slot content : List ℕ) (at place count : ℕ) : Type 0 where
   pub framed : Framed s bs t cs q
   pub here : In q (slotPlaces t cs)
   pub slot-held : Holds t q slot
@@ -130,15 +122,18 @@ pub record Writes (s bs t cs : List ℕ) (q : ℕ) (slot content : List ℕ) (at
   pub size : length t ≡ at + length content + trailer-size
   pub after-header : 4 ≤ at
   pub past : (b : ℕ) → In b cs → blockEnd t b ≤ at
+  pub besides : (p : ℕ) → In p (slotPlaces t cs) → (p ≡ q → ⊥) → In p (slotPlaces s bs) ⊎ Holds t p freeSlot
+  pub low : Same s t 0 place
+  pub high : Same s t (place + count) (length s)
   pub back : Bytes s → openOf s .number ≡ 0 → Kept t cs → undoOf t ≡ granted s
 
 -- with a free slot it keeps the rules
-pub freed-kept : (s bs t cs : List ℕ) (q at : ℕ) → Kept s bs → Writes s bs t cs q freeSlot [] at → length t ≤ most-bytes → Kept t cs
-freed-kept s bs t cs q at k w short =
-    let free = free-reads t q (w .slot-held) in
+pub freed-kept : (s bs t cs : List ℕ) (q at place count : ℕ) → Kept s bs → Writes s bs t cs q freeSlot [] at place count → length t ≤ most-bytes → Kept t cs
+freed-kept s bs t cs q at place count k w short =
+    let free = free-reads t q (w .slot-held) .tag-is in
     framed-kept s bs t cs q k (w .framed) short (λ l. absurd (l free)) (λ l. absurd (l free))
 
-module _ (s bs t cs : List ℕ) (q tag ref : ℕ) (content : List ℕ) (at : ℕ) (w : Writes s bs t cs q (dataSlot tag ref content at) content at)
+module _ (s bs t cs : List ℕ) (q tag ref : ℕ) (content : List ℕ) (at place count : ℕ) (w : Writes s bs t cs q (dataSlot tag ref content at) content at place count)
     (short : length t ≤ most-bytes) (taken : Taken tag) (b₁ : tag < 65536) (b₂ : ref < 65536) where
   pub writes-filled : Filled t q tag ref content at
   writes-filled = filled t q tag ref content at taken b₁ b₂ (omega (arith, w .size)) (w .slot-held) (w .content-held) (omega (arith, w .size))

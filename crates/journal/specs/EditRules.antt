@@ -1,16 +1,21 @@
 -- What an edit leaves in the file after it, as a reader finds it, after document 01, "Edits and the trailer". Assumes nothing.
-use Prim.Native.Nat.{ℕ, _+_}
+use Prim.Native.Nat.{ℕ, _+_, _<_, _≤_}
 use mathlib.Core.Path.{_≡_}
 use mathlib.Core.Logic.{_⊎_}
-use mathlib.Core.List.{List, [], _∷_}
-use lib.ListN.{length}
+use mathlib.Core.List.{List, [], _∷_, _++_}
+use lib.ListN.{length, getD}
+use Rattle.wire.specs.Numbers.{part}
 use Rattle.answer.specs.Refusals.{ABSENT}
 use Rattle.answer.specs.Answer.{grant, refuse}
-use Rattle.answer.specs.Search.{Hit, hit, miss}
-use Rattle.directory.specs.Slots.{tagAt, baseTag, contentAt}
+use Rattle.answer.specs.Search.{Hit, hit, miss, In}
+use Rattle.directory.specs.Blocks.{nextBlock, blocksOf}
+use Rattle.directory.specs.Slots.{tagAt, refAt, offsetAt, lengthAt, baseTag, contentAt, slotsOf}
 use Rattle.directory.specs.Lookup.{findOf}
+use Rattle.directory.specs.Rules.{Live}
+use Rattle.directory.specs.Named.{Named}
 use Rattle.journal.specs.Trailers.{trailer-size}
 use Rattle.journal.specs.Edits.{block-size, firstFree}
+use Rattle.journal.specs.Rules.{NoneFree}
 use Rattle.journal.specs.History.{Edit, add, replace, remove}
 
 -- ---- What is read
@@ -48,6 +53,52 @@ contentOf (remove tag ref) = []
 -- another pair: the base tags differ, or the references do
 abbrev pub OtherPair : Edit → ℕ → ℕ → Type 0
 OtherPair e tag ref = (baseTag tag ≡ baseTag (tagOf e) → ⊥) ⊎ (ref ≡ refOf e → ⊥)
+
+-- ---- The directory
+
+-- the slot at q by its four numbers
+pub record SlotIs (t : List ℕ) (q tag ref offset size : ℕ) : Type 0 where
+  pub tag-is : tagAt t q ≡ tag
+  pub ref-is : refAt t q ≡ ref
+  pub offset-is : offsetAt t q ≡ offset
+  pub length-is : lengthAt t q ≡ size
+
+-- q is the first free slot: every slot before it is live
+abbrev pub FirstFree : List ℕ → ℕ → Type 0
+FirstFree s q =
+    (before : List ℕ) × (after : List ℕ) × (slotsOf s ≡ before ++ (q ∷ after)) × (tagAt s q ≡ 1) × ((p : ℕ) → In p before → Live s p)
+
+-- the slot that an edit writes: the first free one, or, where none is free, the first of a block behind the file; the pair's own
+abbrev pub TakesSlot : List ℕ → Edit → ℕ → Type 0
+TakesSlot s (add tag ref content) q = FirstFree s q ⊎ (NoneFree s × (q ≡ length s + 6))
+TakesSlot s (replace tag ref content) q = Named s tag ref q
+TakesSlot s (remove tag ref) q = Named s tag ref q
+
+-- the pair, the content's length, and where it stands: right before the trailer, and at 0 where it is empty
+abbrev pub HoldsPair : List ℕ → ℕ → ℕ → ℕ → List ℕ → Type 0
+HoldsPair t q tag ref content =
+    (offset : ℕ) × SlotIs t q tag ref offset (length content)
+    × (length content ≡ 0 → offset ≡ 0) × (0 < length content → offset + length content + 32 ≡ length t)
+
+-- what the slot holds after the edit
+abbrev pub HoldsEdit : List ℕ → Edit → ℕ → Type 0
+HoldsEdit t (add tag ref content) q = HoldsPair t q tag ref content
+HoldsEdit t (replace tag ref content) q = HoldsPair t q tag ref content
+HoldsEdit t (remove tag ref) q = SlotIs t q 1 0 0 0
+
+-- one slot is written; every other slot of s, live or free, has its twelve bytes as before, at its place; what t has besides is free
+pub record OneSlot (s t : List ℕ) (e : Edit) (q : ℕ) : Type 0 where
+  pub takes : TakesSlot s e q
+  pub there : In q (slotsOf t)
+  pub holds : HoldsEdit t e q
+  pub others : (p : ℕ) → In p (slotsOf s) → (p ≡ q → ⊥) → In p (slotsOf t) × (part t p 12 ≡ part s p 12)
+  pub besides : (p : ℕ) → In p (slotsOf t) → (p ≡ q → ⊥) → In p (slotsOf s) ⊎ SlotIs t p 1 0 0 0
+
+-- the bytes that an edit alters: those of the slot, or, where no slot is free, of the next field of the last block
+pub record Alters (s t : List ℕ) (q at count : ℕ) : Type 0 where
+  pub which : ((at ≡ q) × (count ≡ 12)) ⊎ (NoneFree s × (count ≡ 4) × ((b : ℕ) × In b (blocksOf s) × (nextBlock s b ≡ 0) × (at ≡ b + 2)))
+  pub before : (i : ℕ) → i < at → getD t i 0 ≡ getD s i 0
+  pub after : (i : ℕ) → at + count ≤ i → i < length s → getD t i 0 ≡ getD s i 0
 
 -- ---- Lengths
 

@@ -3,6 +3,7 @@ pub mod Trailers
 pub mod Edits
 pub mod Undos
 pub mod Buffers
+pub mod Rules
 pub mod History
 pub mod EditRules
 pub mod Cases

@@ -2,7 +2,7 @@
 use Prim.Native.Nat.{ℕ, zero, suc}
 use mathlib.Core.List.{List, [], _∷_}
 use lib.ListN.{length}
-use Rattle.answer.specs.Answer.{Answer, grant, refuse}
+use Rattle.answer.specs.Answer.{Answer, grant, refuse, refusal}
 use Rattle.directory.specs.Opening.{openOf}
 use Rattle.journal.specs.declared.Edited.{Edited}
 use Rattle.journal.specs.declared.Edited.the-variants.{Granted, Refused}
@@ -24,7 +24,7 @@ fileOf (refused number place) = []
 
 abbrev pub editedNumbers : Edited → Answer
 editedNumbers (Granted size) = grant (size ∷ [])
-editedNumbers (Refused r) = refuse 1 (r .number) (r .place)
+editedNumbers (Refused r) = refusal 1 r
 
 -- a refusal with the number of the first rule broken and its place; where that is 0, what the call goes on to
 unfoldable pub passing : ℕ → ℕ → Outcome → Outcome

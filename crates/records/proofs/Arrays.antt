@@ -8,9 +8,10 @@ use lib.ListN.{length, getD, take, drop, length-append}
 use lib.Dec.{leb}
 use lib.Seq.{sets, take-append-seam, drop-append-seam, take-length, drop-length}
 use borrow.Author.Tests.{eq-eqb, ne-eqb, eqb-true, le-leb, lt-leb, leb-true}
-use Rattle.wire.specs.Numbers.{be, bytes, put, part}
-use Rattle.wire.proofs.Numbers.{length-bytes}
-use Rattle.answer.specs.Answer.{Answer, grant, refuse, inRoom}
+use Rattle.wire.specs.Numbers.{be, bytes, put, part, Bytes}
+use Rattle.wire.proofs.Numbers.{be-small, length-bytes}
+use Rattle.answer.specs.Answer.{Answer, grant, refuse, refusal, inRoom}
+use Rattle.answer.specs.declared.Refusal.{Refusal}
 use Rattle.answer.proofs.Tests.{and-both}
 use Rattle.answer.proofs.Search.{must-holds, must-fails, passed, pass}
 use Rattle.answer.proofs.Lent.{refuses}
@@ -24,7 +25,7 @@ use Rattle.records.specs.Arrays.{array, arrayFault, arraySizes, arrayPai
 use Rattle.records.specs.declared.array.Array.{Array}
 use Rattle.wire.proofs.Layouts.{put-field, put-run, length-bytesEach, length-numbersAt, take-run, drop-run}
 use Rattle.records.proofs.Readings.{reads-passed, reads-bytes, reads-list}
-use Rattle.answer.proofs.Answer.{inRoom-enough, inRoom-short}
+use Rattle.answer.proofs.Answer.{refusal-is, inRoom-enough, inRoom-short}
 
 -- ---- The record
 
@@ -50,6 +51,10 @@ module _ (e : List ℕ) where
     pub sound-extent : extent array e 0 ≡ length e
     unfolding arrayFault
     sound-extent = sym (eqb-true (length e) (extent array e 0) (passed _ 14 _ sound .0))
+
+    some-rank : 1 ≤ be 2 e 0
+    unfolding arrayFault read
+    some-rank = leb-true 1 (be 2 e 0) (passed _ 14 0 (passed _ 14 _ sound .1) .0)
 
     -- the sizes and the pairs end among the bytes
     pub sizes-inside : read array e 0 .sizes + 4 * read array e 0 .rank ≤ length e
@@ -109,9 +114,9 @@ LeavesAt s found sizes pairs numbers sizes-after pairs-after =
     ReadsArray (arrayAt s found (length sizes) (length pairs)) (recordBytes s found) sizes sizes-after pairs pairs-after numbers
 
 module _ (s : List ℕ) (found : Hit) (sizes pairs : List ℕ) where
-  pub leaves-refused : (number place : ℕ) → arrayAt s found (length sizes) (length pairs) ≡ refuse 1 number place → (number ≡ 0 → ⊥)
-      → LeavesAt s found sizes pairs (refuse 1 number place) sizes pairs
-  leaves-refused number place e z = (refuses _ _ sizes 1 number place e z, refuses _ _ pairs 1 number place e z)
+  pub leaves-refused : (r : Refusal) → arrayAt s found (length sizes) (length pairs) ≡ refusal 1 r → (r .number ≡ 0 → ⊥)
+      → LeavesAt s found sizes pairs (refusal 1 r) sizes pairs
+  leaves-refused r e z = (refuses _ _ sizes 1 r (e ∙ refusal-is 1 r z) z, refuses _ _ pairs 1 r (e ∙ refusal-is 1 r z) z)
 
   -- the array of the element's bytes e, which break no rule
   module _ (l : Located) (is : l ≡ locatedAt s found) (p o n : ℕ) (plain : l ≡ Plain p o n) (e : List ℕ) (of : e ≡ part s o n)
@@ -123,10 +128,10 @@ module _ (s : List ℕ) (found : Hit) (sizes pairs : List ℕ) where
         ∙ ap (λ b. inRoom 1 (leb (b .rank) (length sizes) && leb (2 * (b .rank + 1)) (length pairs)) (grant (b .rank ∷ []))) (sym read-is)
 
     pub leaves-sizes : length sizes < a .rank → LeavesAt s found sizes pairs (refuse 1 14 0) sizes pairs
-    leaves-sizes h = leaves-refused 14 0 (array-judged ∙ inRoom-short 1 _ _ (rw (lt-leb _ _ h))) (λ z. omega arith)
+    leaves-sizes h = leaves-refused (record { number = 14; place = 0 }) (array-judged ∙ inRoom-short 1 _ _ (rw (lt-leb _ _ h))) (λ z. omega arith)
 
     pub leaves-pairs : length pairs < 2 * (a .rank + 1) → LeavesAt s found sizes pairs (refuse 1 14 0) sizes pairs
-    leaves-pairs h = leaves-refused 14 0 (array-judged ∙ inRoom-short 1 _ _ (rw (lt-leb _ _ h) (and-false (leb (a .rank) (length sizes))))) (λ z. omega arith)
+    leaves-pairs h = leaves-refused (record { number = 14; place = 0 }) (array-judged ∙ inRoom-short 1 _ _ (rw (lt-leb _ _ h) (and-false (leb (a .rank) (length sizes))))) (λ z. omega arith)
 
     pub leaves-granted : a .rank ≤ length sizes → 2 * (a .rank + 1) ≤ length pairs → (sizes-after pairs-after : List ℕ)
         → sizes-after ≡ sets sizes 0 (numbersAt 4 (a .rank) e (a .sizes))
@@ -169,6 +174,13 @@ module _ (rank pairs : ℕ) where
       let b = passed _ 14 _ (a .1) in
       let c = passed _ 14 _ (b .1) in
       (leb-true _ _ (a .0), leb-true _ _ (b .0), eqb-true _ _ (c .0))
+
+-- the sizes and the pairs of a record that breaks no rule break none
+pub own-passes : (e : List ℕ) → arrayFault e ≡ 0 → Bytes e → arrayPackFault (length (arraySizes e)) (length (arrayPairs e)) ≡ 0
+unfolding read arraySizes arrayPairs
+own-passes e sound b =
+    let rank = be 2 e 0 in
+    simp length-numbersAt (pack-passes rank (2 * (rank + 1)) (some-rank e sound) (omega (arith, be-small 2 e 0 b)) refl)
 
 module _ (sizes pairs : List ℕ) (h : length pairs ≡ 2 * (length sizes + 1)) where
   pub array-bytes : arrayBytes sizes pairs ≡ bytes 2 (length sizes) ++ (bytesEach 4 sizes ++ (bytesEach 2 pairs ++ []))

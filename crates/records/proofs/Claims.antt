@@ -1,14 +1,15 @@
--- The claims about records: packing what was read gives back its bytes, and reading what was packed gives back its values. Assumes nothing.
+-- The claims about records: packing what was read is granted and gives back its bytes, reading what was packed gives back its values, and the
+-- table of types is the paper's. Assumes nothing.
 use Prim.Native.Nat.{ℕ, _+_, _*_, _^_, _<_, _≤_}
 use native.Mathlib.Omega.{arith}
 use mathlib.Core.Path.{_≡_, refl, sym, ap, _∙_}
 use mathlib.Core.Bool.{false}
 use mathlib.Core.List.{List, [], _∷_, _++_}
-use lib.ListN.{length}
+use lib.ListN.{length, getD}
 use borrow.Author.Tests.{le-leb}
 use Rattle.wire.specs.Numbers.{be, Bytes}
 use Rattle.answer.specs.Answer.{grant}
-use Rattle.answer.specs.Search.{hit}
+use Rattle.answer.specs.Search.{hit, In}
 use Rattle.directory.specs.Slots.{contentAt}
 use Rattle.directory.specs.Opening.{openOf}
 use Rattle.directory.specs.Lookup.{find}
@@ -17,29 +18,34 @@ use Rattle.storage.specs.Elements.{extendedAt}
 use Rattle.records.specs.Limits.{number-type-tag, array-tag}
 use Rattle.wire.specs.Layouts.{read, extent, numbers, pack, given, Small, Fits}
 use Rattle.records.specs.Readings.{recordBytes}
+use Rattle.records.specs.Packings.{PacksBack}
 use Rattle.records.specs.NumberTypes.{numberType, numberTypeValues, numberTypeFault, numberTypeAt, numberTypeOf, numberTypeBytes}
 use Rattle.records.specs.Dimensions.{dimension, dimensionValues, dimensionFault, dimensionAt, dimensionOf, dimensionBytes, dimensionPackFault}
 use Rattle.records.specs.Arrays.{array, arrayFault, arraySizes, arrayPairs, arrayAt, arrayOf, arrayBytes, arrayPackFault}
+use Rattle.records.specs.Types.{Kind, signed, unsigned, float, types, rowOf, widthOf, kindOf}
 use Rattle.records.specs.declared.number_type.NumberType.{NumberType}
 use Rattle.records.specs.declared.dimension.Dimension.{Dimension}
 use Rattle.wire.proofs.Layouts.{packed-whole}
-use Rattle.records.proofs.Readings.{record-granted, content-passes, content-packs}
+use Rattle.records.proofs.Readings.{record-granted, content-passes, content-bytes, content-packs}
 use Rattle.answer.proofs.Answer.{inRoom-enough}
+use Rattle.records.proofs.Packings.{packs-back}
 use Rattle.records.proofs.NumberTypes
 use Rattle.records.proofs.Dimensions
 use Rattle.records.proofs.Arrays
+use Rattle.records.proofs.Types.{row-none}
 
 -- ---- Number types
 
 pub number-type-packs : (s : List ℕ) (ref : ℕ) (x : NumberType) → Bytes s → numberTypeOf s ref ≡ grant (numberTypeValues x)
-    → numberTypeBytes x ≡ recordBytes s (find s number-type-tag ref)
+    → PacksBack 0 (numberTypeBytes x) (recordBytes s (find s number-type-tag ref))
 unfolding numberTypeOf numberTypeAt numberTypeBytes numbers read extent
 number-type-packs s ref x b h =
     let g = record-granted 4 s number-type-tag ref numberTypeFault _ (ap (λ a. a .number) h) in
     let e = contentAt s (g .0) in
     let values : numbers numberType e 0 ≡ numberTypeValues x = ap (λ a. a .values) (sym (g .1 .answers) ∙ h) in
-    ap (λ xs. pack numberType xs 0) (sym values)
-    ∙ content-packs numberType s number-type-tag ref (g .0) _ _ (g .1 .found) b (sym (NumberTypes.sound-bytes e (g .1 .sound))) ∙ sym (g .1 .bytes)
+    packs-back _ _ _ refl
+    (ap (λ xs. pack numberType xs 0) (sym values)
+    ∙ content-packs numberType s (g .0) b (sym (NumberTypes.sound-bytes e (g .1 .sound))) ∙ sym (g .1 .bytes))
 
 module _ (x : NumberType) (version : x .version < 256) (code : x .code < 256) (width : x .width < 256) (class : x .class < 256) where
   number-type-fits : Fits numberType (numberTypeValues x) 0
@@ -55,14 +61,16 @@ module _ (x : NumberType) (version : x .version < 256) (code : x .code < 256) (w
 -- ---- Dimensions
 
 pub dimension-packs : (s : List ℕ) (tag ref : ℕ) (d : Dimension) → Bytes s → dimensionOf s tag ref ≡ grant (dimensionValues d)
-    → dimensionBytes d ≡ recordBytes s (find s tag ref)
+    → PacksBack (dimensionPackFault d) (dimensionBytes d) (recordBytes s (find s tag ref))
 unfolding dimensionOf dimensionAt dimensionBytes numbers read extent
 dimension-packs s tag ref d b h =
     let g = record-granted 8 s tag ref dimensionFault _ (ap (λ a. a .number) h) in
     let e = contentAt s (g .0) in
     let values : numbers dimension e 0 ≡ dimensionValues d = ap (λ a. a .values) (sym (g .1 .answers) ∙ h) in
-    ap (λ xs. pack dimension xs 0) (sym values)
-    ∙ content-packs dimension s tag ref (g .0) _ _ (g .1 .found) b (sym (Dimensions.sound-bytes e (g .1 .sound))) ∙ sym (g .1 .bytes)
+    let interlace : be 2 e 14 ≡ d .interlace = ap (λ xs. getD xs 5 0) values in
+    packs-back _ _ _ (Dimensions.pack-passed d (rw interlace at (Dimensions.sound-interlace e (g .1 .sound))))
+    (ap (λ xs. pack dimension xs 0) (sym values)
+    ∙ content-packs dimension s (g .0) b (sym (Dimensions.sound-bytes e (g .1 .sound))) ∙ sym (g .1 .bytes))
 
 module _ (d : Dimension) (sound : dimensionPackFault d ≡ 0) (x : d .x < 256 ^ 4) (y : d .y < 256 ^ 4)
     (type-tag : d .«type_tag» < 256 ^ 2) (type-ref : d .«type_ref» < 256 ^ 2) (elements : d .elements < 256 ^ 2)
@@ -83,14 +91,16 @@ module _ (d : Dimension) (sound : dimensionPackFault d ≡ 0) (x : d .x < 256 ^ 
 -- ---- Arrays
 
 pub array-packs : (s : List ℕ) (ref a b : ℕ) → Bytes s → arrayOf s ref a b .number ≡ 0
-    → let e = recordBytes s (find s array-tag ref) in arrayBytes (arraySizes e) (arrayPairs e) ≡ e
+    → let e = recordBytes s (find s array-tag ref) in let sizes = arraySizes e in let pairs = arrayPairs e in
+    PacksBack (arrayPackFault (length sizes) (length pairs)) (arrayBytes sizes pairs) e
 unfolding arrayOf arrayAt arrayBytes
 array-packs s ref a b bytes h =
     let g = record-granted 1 s array-tag ref arrayFault _ h in
     let e = contentAt s (g .0) in
     rw (g .1 .bytes)
+    (packs-back _ _ _ (Arrays.own-passes e (g .1 .sound) (content-bytes s (g .0) bytes))
     (ap (λ xs. pack array xs 0) (sym (Arrays.array-numbers e))
-    ∙ content-packs array s array-tag ref (g .0) _ _ (g .1 .found) bytes (Arrays.sound-extent e (g .1 .sound)))
+    ∙ content-packs array s (g .0) bytes (Arrays.sound-extent e (g .1 .sound))))
 
 module _ (sizes pairs : List ℕ) (sound : arrayPackFault (length sizes) (length pairs) ≡ 0) (small-sizes : Small 4 sizes) (small-pairs : Small 2 pairs) where
   pub array-reads : (s : List ℕ) (ref a b p : ℕ) → openOf s .number ≡ 0 → find s array-tag ref ≡ hit p → extendedAt s p ≡ false
@@ -113,3 +123,31 @@ module _ (sizes pairs : List ℕ) (sound : arrayPackFault (length sizes) (length
         rw (g .bytes) (Arrays.sizes-of sizes pairs (h .2) e are),
         rw (g .bytes) (Arrays.pairs-of sizes pairs (h .2) e are),
       )
+
+-- ---- Types
+
+-- values of the type have so many bytes and are of this kind
+abbrev pub HasType : ℕ → ℕ → Kind → Type 0
+HasType code width kind = (widthOf code ≡ width) × (kindOf code ≡ kind)
+
+-- 3, 4, 20, 21 one byte; 22, 23 two; 24, 25, 5 four; 6 eight; 20, 22, 24 signed; 5 and 6 floats; every other code is unknown
+pub types-are :
+    HasType 3 1 unsigned × HasType 4 1 unsigned × HasType 20 1 signed × HasType 21 1 unsigned
+    × HasType 22 2 signed × HasType 23 2 unsigned
+    × HasType 24 4 signed × HasType 25 4 unsigned × HasType 5 4 float
+    × HasType 6 8 float
+    × ((code : ℕ) → (In code (3 ∷ 4 ∷ 20 ∷ 21 ∷ 22 ∷ 23 ∷ 24 ∷ 25 ∷ 5 ∷ 6 ∷ []) → ⊥) → widthOf code ≡ 0)
+unfolding widthOf kindOf rowOf
+types-are = (
+  (refl, refl),
+  (refl, refl),
+  (refl, refl),
+  (refl, refl),
+  (refl, refl),
+  (refl, refl),
+  (refl, refl),
+  (refl, refl),
+  (refl, refl),
+  (refl, refl),
+  λ code z. row-none code types z,
+)

@@ -28,6 +28,10 @@ module _ (e : List ℕ) where
   unfolding dimensionFault extent
   sound-bytes h = eqb-true (length e) 20 (passed _ 14 _ h .0)
 
+  pub sound-interlace : dimensionFault e ≡ 0 → be 2 e 14 ≤ 2
+  unfolding dimensionFault read
+  sound-interlace h = leb-true (be 2 e 14) 2 (passed _ 14 0 (passed _ 14 _ h .1) .0)
+
 module _ (d : Dimension) where
   pub pack-refused : 2 < d .interlace → dimensionPackFault d ≡ 15
   unfolding dimensionPackFault

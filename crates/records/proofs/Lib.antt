@@ -6,3 +6,5 @@ pub mod Dimensions
 pub mod Arrays
 pub mod Types
 pub mod Claims
+pub mod RecordRules
+pub mod RecordClaims

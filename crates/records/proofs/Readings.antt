@@ -9,7 +9,8 @@ use mathlib.Core.Bool.{false}
 use lib.ListN.{length}
 use lib.Seq.{sets}
 use Rattle.answer.specs.Search.{Hit, hit}
-use Rattle.answer.specs.Answer.{Answer, grant, refuse}
+use Rattle.answer.specs.Answer.{Answer, grant, refusal}
+use Rattle.answer.proofs.Answer.{refusal-number}
 use Rattle.answer.specs.Lent.{Does}
 use Rattle.answer.specs.declared.Refusal.{Refusal}
 use Rattle.answer.proofs.Tests.{zero?}
@@ -25,7 +26,7 @@ use Rattle.directory.proofs.Opens.{opened-goes, opened-passed}
 use Rattle.storage.specs.Elements.{extendedAt, startAt, elementAt, plainOnly, locatedAt, bytesAt, refusalIn, onPlain}
 use Rattle.storage.specs.declared.element.Located.{Located}
 use Rattle.storage.specs.declared.element.Located.the-variants.{Plain, Refused}
-use Rattle.storage.proofs.Elements.{FoundPlain, found-plain, element-plain, located-element, located-positive}
+use Rattle.storage.proofs.Elements.{content-part, FoundPlain, found-plain, element-plain, located-element, located-positive}
 use Rattle.records.specs.Readings.{soundIn, recordAt, recordOf, recordBytes}
 
 -- ---- The element of a record
@@ -92,11 +93,11 @@ module _ (k : ℕ) (s : List ℕ) (found : Hit) (fault : List ℕ → ℕ) (answ
   unfolding recordAt
   answered m e = ap (λ x. onPlain k (λ p offset size. answer offset (part s offset size)) (soundIn fault s x)) (sym is) ∙ ap (onPlain k (λ p offset size. answer offset (part s offset size))) e
 
-  pub reads-refusal : (x : Refusal) → l ≡ Refused x → (r : Refusal) → r ≡ refusalIn l → recordAt k s found fault answer ≡ refuse k (r .number) (r .place)
-  reads-refusal x e r taken = answered _ (sound-refused fault s l x e) ∙ ap (λ y. refuse k (y .number) (y .place)) (sym (taken ∙ ap refusalIn e))
+  pub reads-refusal : (x : Refusal) → l ≡ Refused x → (r : Refusal) → r ≡ refusalIn l → recordAt k s found fault answer ≡ refusal k r
+  reads-refusal x e r taken = answered _ (sound-refused fault s l x e) ∙ ap (refusal k) (sym (taken ∙ ap refusalIn e))
 
   module _ (p o n : ℕ) (e : l ≡ Plain p o n) (b : List ℕ) (of : b ≡ part s o n) where
-    pub reads-broken : (number : ℕ) → number ≡ fault b → (number ≡ 0 → ⊥) → recordAt k s found fault answer ≡ refuse k number p
+    pub reads-broken : (number : ℕ) → number ≡ fault b → (number ≡ 0 → ⊥) → recordAt k s found fault answer ≡ refusal k (record { number = number; place = p })
     reads-broken number f z = answered _ (sound-broken fault s l p o n e b of number f z)
 
     pub reads-passed : fault b ≡ 0 → recordAt k s found fault answer ≡ answer o b
@@ -107,6 +108,9 @@ reads-positive s found l is x e r taken z = located-positive (elementAt s found)
 
 pub reads-bytes : (s : List ℕ) (found : Hit) (l : Located) → l ≡ locatedAt s found → (p o n : ℕ) → l ≡ Plain p o n → recordBytes s found ≡ part s o n
 reads-bytes s found l is p o n e = ap (bytesAt s) (sym is ∙ e)
+
+pub plain-bytes : (s : List ℕ) (tag ref p : ℕ) → find s tag ref ≡ hit p → extendedAt s p ≡ false → recordBytes s (find s tag ref) ≡ contentAt s p
+plain-bytes s tag ref p found plain = ap (λ x. bytesAt s (plainOnly x)) (ap (elementAt s) found ∙ element-plain s p plain) ∙ sym (content-part s p)
 
 -- what is put into a lent list
 pub reads-list : (answer : Answer) (list lent : List ℕ) (values : List ℕ) → answer ≡ grant values → length list ≤ length lent → (after : List ℕ) → after ≡ sets lent 0 list
@@ -134,7 +138,7 @@ module _ (k : ℕ) (s : List ℕ) (tag ref : ℕ) (fault : List ℕ → ℕ) (an
         found = f;
         sound = sound;
         answers = opened-goes k s _ opens ∙ reads-passed k s (find s tag ref) fault answer _ refl p _ _ l (contentAt s p) (sym (f .content)) sound;
-        bytes = ap (bytesAt s) l ∙ f .content;
+        bytes = plain-bytes s tag ref p found plain;
       }
 
   pub record-granted : recordOf k s tag ref fault answer .number ≡ 0 → (p : ℕ) × Granted p
@@ -148,10 +152,13 @@ module _ (k : ℕ) (s : List ℕ) (tag ref : ℕ) (fault : List ℕ → ℕ) (an
     where
       passed : (l : Located) → soundIn fault s (locatedAt s (find s tag ref)) ≡ l → onPlain k (λ p offset size. answer offset (part s offset size)) l .number ≡ 0
           → (p : ℕ) × (o : ℕ) × (n : ℕ) × ((locatedAt s (find s tag ref) ≡ Plain p o n) × (fault (part s o n) ≡ 0))
-      passed (Refused x) is z = absurd (sound-positive fault s (find s tag ref) x is z)
+      passed (Refused x) is z = absurd (sound-positive fault s (find s tag ref) x is (sym (refusal-number k x) ∙ z))
       passed (Plain p o n) is z = (p, o, n, sound-plain fault s (locatedAt s (find s tag ref)) p o n is)
 
+pub content-bytes : (s : List ℕ) (p : ℕ) → Bytes s → Bytes (contentAt s p)
+content-bytes s p b = rw (content-part s p) (bytes-part s (startAt s p) (sizeAt s p) b)
+
 -- the numbers of a record that ends where its bytes do give these bytes
-pub content-packs : {A : Type 0} (layout : Layout A) (s : List ℕ) (tag ref p o n : ℕ) → FoundPlain s tag ref p o n → Bytes s
+pub content-packs : {A : Type 0} (layout : Layout A) (s : List ℕ) (p : ℕ) → Bytes s
     → extent layout (contentAt s p) 0 ≡ length (contentAt s p) → pack layout (numbers layout (contentAt s p) 0) 0 ≡ contentAt s p
-content-packs layout s tag ref p o n f b h = pack-whole layout (contentAt s p) (rw (← f .content) (bytes-part s o n b)) h
+content-packs layout s p b h = pack-whole layout (contentAt s p) (content-bytes s p b) h

@@ -1,11 +1,15 @@
 -- Number types by their codes, a row of the table at a time. Assumes nothing.
-use Prim.Native.Nat.{ℕ}
-use mathlib.Core.Path.{_≡_, refl}
-use mathlib.Core.Logic.{inl, inr}
+use Prim.Native.Nat.{ℕ, _≤_}
+use native.Mathlib.Omega.{arith}
+use mathlib.Core.Path.{_≡_, refl, ap, _∙_}
+use mathlib.Core.Logic.{_↔_, inl, inr}
 use mathlib.Core.List.{List, [], _∷_}
-use borrow.Author.Tests.{eq-eqb, ne-eqb}
+use mathlib.Core.Bool.{true}
+use lib.Dec.{leb}
+use borrow.Author.Tests.{eq-eqb, ne-eqb, leb-true, le-leb}
+use Rattle.answer.specs.Search.{In}
 use Rattle.answer.proofs.Tests.{same?}
-use Rattle.records.specs.Types.{unsigned, TypeRow, types, rowOf, widthOf, kindOf}
+use Rattle.records.specs.Types.{unsigned, TypeRow, types, rowOf, widthOf, kindOf, TypeIs, type-3, type-4, type-20, type-21, type-22, type-23, type-24, type-25, type-5, type-6, KnownType}
 
 -- ---- A table
 
@@ -30,6 +34,16 @@ row-is P code (r ∷ rs) h =
       | inl e ↦ rw (row-here code r rs e) (h .0 e)
       | inr n ↦ rw (row-later code r rs n) (row-is P code rs (h .1))
     ]
+
+-- a type that no row has
+abbrev codesOf : List TypeRow → List ℕ
+codesOf [] = []
+codesOf (r ∷ rs) = r .code ∷ codesOf rs
+
+pub row-none : (code : ℕ) (rs : List TypeRow) → (In code (codesOf rs) → ⊥) → rowOf code rs .width ≡ 0
+unfolding rowOf
+row-none code [] h = refl
+row-none code (r ∷ rs) h = ap (λ x. x .width) (row-later code r rs (λ q. h (inl q))) ∙ row-none code rs (λ i. h (inr i))
 
 -- ---- The types: 3, 4, 20, 21, 22, 23, 24, 25, 5, 6, and every other
 
@@ -104,3 +118,61 @@ module _ (code : ℕ) (a : code ≡ 20 → ⊥) (b : code ≡ 22 → ⊥) (c : c
           ),
         ),
       )
+
+-- ---- The types as facts
+
+pub type-once : {code kind width other also : ℕ} → TypeIs code kind width → TypeIs code other also → (kind ≡ other) × (width ≡ also)
+type-once type-3 type-3 = (refl, refl)
+type-once type-4 type-4 = (refl, refl)
+type-once type-20 type-20 = (refl, refl)
+type-once type-21 type-21 = (refl, refl)
+type-once type-22 type-22 = (refl, refl)
+type-once type-23 type-23 = (refl, refl)
+type-once type-24 type-24 = (refl, refl)
+type-once type-25 type-25 = (refl, refl)
+type-once type-5 type-5 = (refl, refl)
+type-once type-6 type-6 = (refl, refl)
+
+-- the table has them
+pub type-width : {code kind width : ℕ} → TypeIs code kind width → (widthOf code ≡ width) × (1 ≤ width)
+unfolding widthOf rowOf
+type-width type-3 = (refl, omega arith)
+type-width type-4 = (refl, omega arith)
+type-width type-20 = (refl, omega arith)
+type-width type-21 = (refl, omega arith)
+type-width type-22 = (refl, omega arith)
+type-width type-23 = (refl, omega arith)
+type-width type-24 = (refl, omega arith)
+type-width type-25 = (refl, omega arith)
+type-width type-5 = (refl, omega arith)
+type-width type-6 = (refl, omega arith)
+
+-- and no others
+type-known : (code : ℕ) → 1 ≤ widthOf code → KnownType code
+unfolding widthOf
+type-known code =
+    row-is (λ r. 1 ≤ r .width → KnownType code) code types (
+      (λ q l. (2, 1, rw q type-3)),
+      (
+        (λ q l. (2, 1, rw q type-4)),
+        (
+          (λ q l. (1, 1, rw q type-20)),
+          (
+            (λ q l. (2, 1, rw q type-21)),
+            (
+              (λ q l. (1, 2, rw q type-22)),
+              (
+                (λ q l. (2, 2, rw q type-23)),
+                (
+                  (λ q l. (1, 4, rw q type-24)),
+                  ((λ q l. (2, 4, rw q type-25)), ((λ q l. (3, 4, rw q type-5)), ((λ q l. (4, 8, rw q type-6)), λ l. absurd (omega arith)))),
+                ),
+              ),
+            ),
+          ),
+        ),
+      ),
+    )
+
+pub known-is : (code : ℕ) → (leb 1 (widthOf code) ≡ true) ↔ KnownType code
+known-is code = ((λ b. type-known code (leb-true _ _ b)), (λ k. let w = type-width (k .2) in le-leb 1 (widthOf code) (rw (w .0) (w .1))))

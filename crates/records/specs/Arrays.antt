@@ -4,7 +4,7 @@ use mathlib.Core.List.{List, [], _∷_, _++_}
 use mathlib.Core.Bool.{_&&_}
 use lib.ListN.{length}
 use lib.Dec.{leb, eqb}
-use Rattle.answer.specs.Answer.{Answer, grant, refuse, inRoom}
+use Rattle.answer.specs.Answer.{Answer, grant, refusal, inRoom}
 use Rattle.answer.specs.Search.{must, Hit}
 use Rattle.records.specs.Limits.{array-tag, most-count}
 use Rattle.answer.specs.Refusals.{RECORD}
@@ -23,7 +23,7 @@ array = number 2 (λ rank. run 4 rank (λ sizes. run 2 (2 * (rank + 1)) (λ pair
 
 abbrev pub arrayNumbers : Answered → Answer
 arrayNumbers (Rank n) = grant (n ∷ [])
-arrayNumbers (Refused r) = refuse 1 (r .number) (r .place)
+arrayNumbers (Refused r) = refusal 1 r
 
 -- exactly 6 + 8 x rank bytes, rank at least 1
 unfoldable pub arrayFault : List ℕ → ℕ

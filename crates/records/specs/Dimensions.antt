@@ -2,7 +2,7 @@
 use Prim.Native.Nat.{ℕ}
 use mathlib.Core.List.{List, [], _∷_}
 use lib.Dec.{leb}
-use Rattle.answer.specs.Answer.{Answer, grant, refuse}
+use Rattle.answer.specs.Answer.{Answer, grant, refusal}
 use Rattle.answer.specs.Search.{must, Hit}
 use Rattle.records.specs.Limits.{most-interlace}
 use Rattle.answer.specs.Refusals.{RECORD}
@@ -36,7 +36,7 @@ dimensionValues d =
 
 abbrev pub dimensionNumbers : Answered → Answer
 dimensionNumbers (Values d) = grant (dimensionValues d)
-dimensionNumbers (Refused r) = refuse 8 (r .number) (r .place)
+dimensionNumbers (Refused r) = refusal 8 r
 
 -- exactly 20 bytes, interlace 0 to 2
 unfoldable pub dimensionFault : List ℕ → ℕ

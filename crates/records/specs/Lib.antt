@@ -5,3 +5,4 @@ pub mod NumberTypes
 pub mod Dimensions
 pub mod Arrays
 pub mod Types
+pub mod RecordRules

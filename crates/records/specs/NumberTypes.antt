@@ -1,7 +1,7 @@
 -- Number types, tag 106, after document 01, "Records". Assumes nothing.
 use Prim.Native.Nat.{ℕ}
 use mathlib.Core.List.{List, [], _∷_}
-use Rattle.answer.specs.Answer.{Answer, grant, refuse}
+use Rattle.answer.specs.Answer.{Answer, grant, refusal}
 use Rattle.answer.specs.Search.{must, Hit}
 use Rattle.records.specs.Limits.{number-type-tag}
 use Rattle.answer.specs.Refusals.{RECORD}
@@ -23,7 +23,7 @@ numberTypeValues x = x .version ∷ x .code ∷ x .width ∷ x .class ∷ []
 
 abbrev pub numberTypeNumbers : Answered → Answer
 numberTypeNumbers (Values x) = grant (numberTypeValues x)
-numberTypeNumbers (Refused r) = refuse 4 (r .number) (r .place)
+numberTypeNumbers (Refused r) = refusal 4 r
 
 -- exactly 4 bytes
 unfoldable pub numberTypeFault : List ℕ → ℕ

@@ -34,3 +34,22 @@ widthOf code = rowOf code types .width
 
 unfoldable pub kindOf : ℕ → Kind
 kindOf code = rowOf code types .kind
+
+-- ---- The same as facts
+
+-- a type's code, what is answered of its values' kind (1 signed, 2 unsigned, 3 a float of 32 bits, 4 one of 64), and how many bytes they have
+pub data TypeIs : ℕ → ℕ → ℕ → Type 0 where
+  type-3 : TypeIs 3 2 1
+  type-4 : TypeIs 4 2 1
+  type-20 : TypeIs 20 1 1
+  type-21 : TypeIs 21 2 1
+  type-22 : TypeIs 22 1 2
+  type-23 : TypeIs 23 2 2
+  type-24 : TypeIs 24 1 4
+  type-25 : TypeIs 25 2 4
+  type-5 : TypeIs 5 3 4
+  type-6 : TypeIs 6 4 8
+
+-- it is one of them
+abbrev pub KnownType : ℕ → Type 0
+KnownType code = (kind : ℕ) × (width : ℕ) × TypeIs code kind width

@@ -1,10 +1,12 @@
 -- The answer of a choice between two images from what is found in each, and the bytes that it names. Assumes nothing.
 use Prim.Native.Nat.{ℕ}
 use mathlib.Core.Path.{_≡_, ap, _∙_}
+use mathlib.Core.Logic.{inl, inr}
 use mathlib.Core.Bool.{true, false}
 use mathlib.Core.List.{List, [], _∷_}
-use Rattle.answer.specs.Answer.{Answer, grant, refuse}
-use Rattle.answer.proofs.Tests.{on-true, on-false}
+use Rattle.answer.specs.Answer.{Answer, grant, refusal}
+use Rattle.answer.specs.declared.Refusal.{Refusal}
+use Rattle.answer.proofs.Tests.{on-true, on-false, zero?}
 use Rattle.wire.specs.Numbers.{part}
 use Rattle.directory.specs.Opening.{openOf, opened}
 use Rattle.directory.specs.Lookup.{find}
@@ -40,6 +42,6 @@ module _ (s t : List ℕ) (answer : Answer) where
   unfolding chosenBytes
   bytes-fallback offset size e = rw e
 
-  pub bytes-neither : (number place : ℕ) → answer ≡ refuse 3 number place → chosenBytes s t answer ≡ []
+  pub bytes-neither : (r : Refusal) → answer ≡ refusal 3 r → chosenBytes s t answer ≡ []
   unfolding chosenBytes
-  bytes-neither number place e = rw e
+  bytes-neither r e = elim (zero? (r .number)) [ inl z ↦ rw (e, z) | inr m ↦ rw (e, m .1) ]

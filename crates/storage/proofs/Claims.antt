@@ -61,7 +61,7 @@ pub view-extended : (s : List ℕ) (tag ref p : ℕ) → openOf s .number ≡ 0 
     → (viewOf s tag ref ≡ refuse 2 STORAGE p) × (bytesOf s (viewOf s tag ref) ≡ [])
 view-extended s tag ref p opens named e =
     let v = Views.view-goes s tag ref opens _ (found-extended s tag ref p opens named e) in
-    (v, Views.bytes-refused s (viewOf s tag ref) STORAGE p v)
+    (v, Views.bytes-refused s (viewOf s tag ref) (record { number = STORAGE; place = p }) v)
 
 pub view-absent : (s : List ℕ) (tag ref : ℕ) → openOf s .number ≡ 0 → ((p : ℕ) → Named s tag ref p → ⊥) → viewOf s tag ref ≡ refuse 2 ABSENT 0
 view-absent s tag ref opens none = Views.view-goes s tag ref opens _ (found-absent s tag ref none)
@@ -87,6 +87,9 @@ copy-plain s tag ref offset size out viewed fits =
           ∙ ap (λ k. elementBytes s tag ref ++ drop k out) l
           ∙ ap (λ x. x ++ drop size out) (b ∙ sym (Views.bytes-granted s (viewOf s tag ref) offset size viewed)),
     )
+
+pub copy-absent : (s : List ℕ) (tag ref room : ℕ) → openOf s .number ≡ 0 → ((p : ℕ) → Named s tag ref p → ⊥) → copyOf s tag ref room ≡ refuse 1 ABSENT 0
+copy-absent s tag ref room opens none = Copies.copy-goes s tag ref opens _ (found-absent s tag ref none) room
 
 -- an element in linked blocks, copied: the bytes are what the blocks of its tables give, one after the other, and as many as its record says
 pub copy-linked : (s : List ℕ) (tag ref p room : ℕ) → Named s tag ref p → extendedAt s p ≡ true → copyOf s tag ref room .number ≡ 0
@@ -171,6 +174,11 @@ module _ (s t : List ℕ) (tag ref : ℕ) (opens : openOf s .number ≡ 0) (othe
     choose-fallback p named e =
         let c = Choices.choose-fallback s t tag ref opens other _ (found-absent s tag ref none) refl _ (found-plain t tag ref p other named e) in
         (c, Choices.bytes-fallback s t (chooseOf s t tag ref) (startAt t p) (sizeAt t p) c ∙ sym (content-part t p))
+
+    -- an extended element there is refused at its slot in the fallback
+    pub choose-fallback-extended : (p : ℕ) → Named t tag ref p → extendedAt t p ≡ true → chooseOf s t tag ref ≡ refuse 3 STORAGE p
+    choose-fallback-extended p named e =
+        Choices.choose-fallback s t tag ref opens other _ (found-absent s tag ref none) refl _ (found-extended t tag ref p other named e)
 
     pub choose-absent : ((p : ℕ) → Named t tag ref p → ⊥) → chooseOf s t tag ref ≡ refuse 3 ABSENT 0
     choose-absent neither = Choices.choose-fallback s t tag ref opens other _ (found-absent s tag ref none) refl _ (found-absent t tag ref neither)

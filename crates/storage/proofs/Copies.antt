@@ -7,7 +7,7 @@ use mathlib.Core.List.{List, [], _∷_}
 use lib.ListN.{length}
 use lib.Dec.{leb}
 use borrow.Author.Tests.{leb-true, le-leb, lt-leb}
-use Rattle.answer.specs.Answer.{Answer, grant, refuse, unless}
+use Rattle.answer.specs.Answer.{Answer, grant, refuse, refusal, unless}
 use Rattle.answer.specs.Lent.{Does}
 use Rattle.answer.proofs.Answer.{unless-passes, unless-stops, unless-passed, inRoom-enough, inRoom-short, inRoom-passed}
 use Rattle.answer.proofs.Lent.{refuses, grants}
@@ -66,21 +66,21 @@ module _ (s : List ℕ) (p : ℕ) (r out : List ℕ) where
   abbrev InBlocks : List ℕ → Answer → Type 0
   InBlocks after numbers = Does (copyAt (length out) p (inBlocks s r)) (inBlocks s r .bytes) out after numbers
 
-  pub blocks-record : (n : ℕ) → n ≡ recordFault r → (n ≡ 0 → ⊥) → InBlocks out (refuse 1 n p)
+  pub blocks-record : (n : ℕ) → n ≡ recordFault r → (n ≡ 0 → ⊥) → InBlocks out (refusal 1 (record { number = n; place = p }))
   unfolding inBlocks
-  blocks-record n e z = refuses _ _ out 1 n p (copy-record (length out) p (inBlocks s r) (λ q. z (e ∙ q)) ∙ rw e) z
+  blocks-record n e z = refuses _ _ out 1 _ (copy-record (length out) p (inBlocks s r) (λ q. z (e ∙ q)) ∙ rw e) z
 
   module _ (sound : recordFault r ≡ 0) (d : Description) (is : d ≡ descriptionOf r) where
     pub blocks-small : length out < d .length → InBlocks out (refuse 1 14 0)
     unfolding inBlocks
-    blocks-small h = refuses _ _ out 1 14 0 (copy-small (length out) p (inBlocks s r) sound (rw is at h)) (λ z. omega arith)
+    blocks-small h = refuses _ _ out 1 _ (copy-small (length out) p (inBlocks s r) sound (rw is at h)) (λ z. omega arith)
 
     module _ (fits : d .length ≤ length out) where
-      pub blocks-chain : (n : ℕ) → n ≡ chainOf s d .fault → (n ≡ 0 → ⊥) → InBlocks out (refuse 1 n p)
+      pub blocks-chain : (n : ℕ) → n ≡ chainOf s d .fault → (n ≡ 0 → ⊥) → InBlocks out (refusal 1 (record { number = n; place = p }))
       unfolding inBlocks
       blocks-chain n e z =
           let f : n ≡ chainOf s (descriptionOf r) .fault = rw is at e in
-          refuses _ _ out 1 n p (copy-chain (length out) p (inBlocks s r) sound (rw is at fits) (λ q. z (f ∙ q)) ∙ rw f) z
+          refuses _ _ out 1 _ (copy-chain (length out) p (inBlocks s r) sound (rw is at fits) (λ q. z (f ∙ q)) ∙ rw f) z
 
       pub blocks-granted : chainOf s d .fault ≡ 0 → (after : List ℕ) → after ≡ put out 0 (chainOf s d .bytes) → InBlocks after (grant (d .length ∷ []))
       unfolding inBlocks
@@ -109,7 +109,7 @@ module _ (s : List ℕ) (tag ref : ℕ) (sound : openOf s .number ≡ 0) (x : El
 module _ (s : List ℕ) (p offset size : ℕ) (out : List ℕ) where
   pub plain-small : length out < size → Does (copyAt (length out) p (inPlace s offset size)) (inPlace s offset size .bytes) out out (refuse 1 14 0)
   unfolding inPlace
-  plain-small h = refuses _ _ out 1 14 0 (copy-small (length out) p (inPlace s offset size) refl h) (λ z. omega arith)
+  plain-small h = refuses _ _ out 1 _ (copy-small (length out) p (inPlace s offset size) refl h) (λ z. omega arith)
 
   pub plain-granted : size ≤ length out → length (part s offset size) ≡ size → (after : List ℕ) → after ≡ put out 0 (part s offset size)
       → Does (copyAt (length out) p (inPlace s offset size)) (inPlace s offset size .bytes) out after (grant (size ∷ []))

@@ -10,7 +10,7 @@ use lib.Dec.{leb, ltb}
 use lib.ListN.{length, take, drop}
 use borrow.Author.Tests.{ltb-true, ltb-false, le-leb, lt-leb, eq-eqb, ne-eqb}
 use Rattle.answer.specs.Search.{Hit, hit, miss, In}
-use Rattle.answer.specs.Answer.{Answer, refuse}
+use Rattle.answer.specs.Answer.{Answer}
 use Rattle.answer.specs.declared.Refusal.{Refusal}
 use Rattle.answer.proofs.Tests.{test, zero?, in-append}
 use Rattle.wire.specs.Numbers.{part, Bytes}
@@ -31,7 +31,6 @@ use Rattle.directory.proofs.Named.{found-named}
 use Rattle.storage.specs.Elements.{extendedAt, startAt, elementAt, plainOnly, locatedAt, refusalIn, onPlain}
 use Rattle.storage.specs.declared.element.Element.{Element}
 use Rattle.storage.specs.declared.element.Element.the-variants.{Absent, Plain, Extended}
-use Rattle.storage.specs.declared.element.Located.{Located}
 use Rattle.storage.specs.declared.element.Located.the-variants as located
 
 -- ---- The tests of a slot
@@ -224,11 +223,3 @@ pub plain-passed : (k : ℕ) (answer : ℕ → ℕ → ℕ → Answer) (x : Elem
 plain-passed k answer Absent e = absurd (suc-ne-zero 10 e)
 plain-passed k answer (Plain p offset size) e = (p, offset, size, refl)
 plain-passed k answer (Extended p) e = absurd (suc-ne-zero 11 e)
-
--- what a function that was handed the element or its refusal answers
-module _ (k : ℕ) (answer : ℕ → ℕ → ℕ → Answer) (l at : Located) (is : l ≡ at) where
-  pub plain-goes : (p offset size : ℕ) → l ≡ located.Plain p offset size → onPlain k answer at ≡ answer p offset size
-  plain-goes p offset size e = ap (onPlain k answer) (sym is ∙ e)
-
-  pub plain-stops : (x : Refusal) → l ≡ located.Refused x → (r : Refusal) → r ≡ refusalIn l → onPlain k answer at ≡ refuse k (r .number) (r .place)
-  plain-stops x e r taken = ap (onPlain k answer) (sym is ∙ e) ∙ ap (λ y. refuse k (y .number) (y .place)) (sym (taken ∙ ap refusalIn e))

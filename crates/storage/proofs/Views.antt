@@ -1,9 +1,12 @@
 -- A view's answer from what is found, and that it names bytes inside the image. Assumes nothing.
 use Prim.Native.Nat.{ℕ}
 use mathlib.Core.Path.{_≡_, sym, ap, _∙_}
+use mathlib.Core.Logic.{inl, inr}
 use mathlib.Core.List.{List, [], _∷_}
 use lib.ListN.{getD}
-use Rattle.answer.specs.Answer.{Answer, grant, refuse}
+use Rattle.answer.specs.Answer.{Answer, grant, refusal}
+use Rattle.answer.specs.declared.Refusal.{Refusal}
+use Rattle.answer.proofs.Tests.{zero?}
 use Rattle.wire.specs.Numbers.{part}
 use Rattle.directory.specs.Opening.{openOf}
 use Rattle.directory.specs.Lookup.{find, findIn}
@@ -44,6 +47,6 @@ pub bytes-granted : (s : List ℕ) (answer : Answer) (offset size : ℕ) → ans
 unfolding bytesOf
 bytes-granted s answer offset size e = rw e
 
-pub bytes-refused : (s : List ℕ) (answer : Answer) (number place : ℕ) → answer ≡ refuse 2 number place → bytesOf s answer ≡ []
+pub bytes-refused : (s : List ℕ) (answer : Answer) (r : Refusal) → answer ≡ refusal 2 r → bytesOf s answer ≡ []
 unfolding bytesOf part
-bytes-refused s answer number place e = rw e
+bytes-refused s answer r e = elim (zero? (r .number)) [ inl z ↦ rw (e, z) | inr m ↦ rw (e, m .1) ]

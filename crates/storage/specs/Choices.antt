@@ -4,7 +4,7 @@ use Prim.Native.Nat.{ℕ, zero, suc}
 use mathlib.Core.Bool.{true, false}
 use mathlib.Core.List.{List, [], _∷_}
 use lib.ListN.{getD}
-use Rattle.answer.specs.Answer.{Answer, grant, refuse}
+use Rattle.answer.specs.Answer.{Answer, grant, refusal}
 use Rattle.wire.specs.Numbers.{part}
 use Rattle.directory.specs.Opening.{opened}
 use Rattle.directory.specs.Lookup.{find}
@@ -18,7 +18,7 @@ use Rattle.storage.specs.declared.choose.Chosen.the-variants.{Current, F
 abbrev pub chosenNumbers : Chosen → Answer
 chosenNumbers (Current offset size) = grant (1 ∷ offset ∷ size ∷ [])
 chosenNumbers (Fallback offset size) = grant (2 ∷ offset ∷ size ∷ [])
-chosenNumbers (Refused r) = refuse 3 (r .number) (r .place)
+chosenNumbers (Refused r) = refusal 3 r
 
 -- the part in one image
 abbrev pub partIn : ℕ → Located → Answer

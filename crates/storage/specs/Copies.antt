@@ -4,7 +4,7 @@ use mathlib.Core.List.{List, [], _∷_}
 use lib.ListN.{length}
 use lib.Dec.{leb}
 use Rattle.answer.specs.Refusals.{ABSENT}
-use Rattle.answer.specs.Answer.{Answer, grant, refuse, unless, inRoom}
+use Rattle.answer.specs.Answer.{Answer, grant, refuse, refusal, unless, inRoom}
 use Rattle.answer.specs.Lent.{laidOver}
 use Rattle.wire.specs.Numbers.{part}
 use Rattle.directory.specs.Slots.{contentAt}
@@ -21,7 +21,7 @@ use Rattle.storage.specs.declared.copy.Copied.the-variants as copied
 -- a copy answers the number of bytes
 abbrev pub copiedNumbers : Copied → Answer
 copiedNumbers (copied.Bytes n) = grant (n ∷ [])
-copiedNumbers (copied.Refused r) = refuse 1 (r .number) (r .place)
+copiedNumbers (copied.Refused r) = refusal 1 r
 
 -- an element by its storage: the first rule that its record breaks, how many bytes it has, the first fault of its chain, and its bytes
 pub record Stored : Type 0 where

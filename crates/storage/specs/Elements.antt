@@ -5,7 +5,7 @@ use mathlib.Core.Bool.{Bool, true, false, _&&_}
 use lib.Dec.{leb}
 use Rattle.answer.specs.Refusals.{ABSENT, STORAGE}
 use Rattle.answer.specs.Search.{Hit, hit, miss}
-use Rattle.answer.specs.Answer.{Answer, refuse}
+use Rattle.answer.specs.Answer.{Answer, refusal}
 use Rattle.answer.specs.declared.Refusal.{Refusal}
 use Rattle.wire.specs.Numbers.{part}
 use Rattle.directory.specs.Limits.{extended-first, extended-last}
@@ -47,6 +47,14 @@ abbrev pub bytesAt : List ℕ → Located → List ℕ
 bytesAt s (located.Plain p offset size) = part s offset size
 bytesAt s (located.Refused x) = []
 
+-- where they start in the image; 0 where it is not located
+abbrev pub offsetIn : Located → ℕ
+offsetIn (located.Plain p offset size) = offset
+offsetIn (located.Refused x) = 0
+
+abbrev pub startOf : List ℕ → Hit → ℕ
+startOf s found = offsetIn (locatedAt s found)
+
 -- what is taken from an element that was not located
 abbrev pub refusalIn : Located → Refusal
 refusalIn (located.Plain p offset size) = record { number = 0; place = 0 }
@@ -55,4 +63,4 @@ refusalIn (located.Refused x) = x
 -- what such a call, of k values, answers: the refusal, or what it goes on to at the slot, the offset and the length
 abbrev pub onPlain : ℕ → (ℕ → ℕ → ℕ → Answer) → Located → Answer
 onPlain k answer (located.Plain p offset size) = answer p offset size
-onPlain k answer (located.Refused x) = refuse k (x .number) (x .place)
+onPlain k answer (located.Refused x) = refusal k x

@@ -2,7 +2,7 @@
 use Prim.Native.Nat.{ℕ}
 use mathlib.Core.List.{List, [], _∷_}
 use lib.ListN.{getD}
-use Rattle.answer.specs.Answer.{Answer, grant, refuse}
+use Rattle.answer.specs.Answer.{Answer, grant, refusal}
 use Rattle.wire.specs.Numbers.{part}
 use Rattle.directory.specs.Opening.{opened}
 use Rattle.directory.specs.Lookup.{find}
@@ -14,7 +14,7 @@ use Rattle.storage.specs.declared.view.Viewed.the-variants.{Part, Refuse
 -- a view answers the offset and the length
 abbrev pub viewedNumbers : Viewed → Answer
 viewedNumbers (Part offset size) = grant (offset ∷ size ∷ [])
-viewedNumbers (Refused r) = refuse 2 (r .number) (r .place)
+viewedNumbers (Refused r) = refusal 2 r
 
 abbrev pub viewAt : Located → Answer
 viewAt l = onPlain 2 (λ p offset size. grant (offset ∷ size ∷ [])) l

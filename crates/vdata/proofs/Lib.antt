@@ -1,3 +1,4 @@
 pub mod Patterns
 pub mod Values
+pub mod ValueRules
 pub mod ValueClaims

@@ -19,7 +19,7 @@ use Rattle.wire.proofs.Numbers.{be-small}
 use Rattle.answer.proofs.Tests.{test}
 use Rattle.records.specs.Types.{widthOf, signed, unsigned, float, TypeRow, types, rowOf}
 use Rattle.records.proofs.Types.{kind-unsigned, row-is}
-use Rattle.vdata.specs.Patterns.{valueBy, valueAt, signedBy, float32, float64, valueBits}
+use Rattle.vdata.specs.Patterns.{valueBy, valueAt, signedBy, float32, float64, valueKind, valueBits}
 use Rattle.vdata.specs.declared.value.Value.the-variants.{Unsigned}
 
 -- ---- Types that are not signed and no floats
@@ -53,19 +53,40 @@ less-fits n (suc k) hn hk = record { sfits = either (ltb n (suc k)) (omega arith
 number-bits : (f : Format) (n : ℕ) → n < 2 * top f → nanBits f n ≡ false → toBits f (ofBits f n) ≡ n
 number-bits f n h e = toBits-ofBits f n h (subst (λ (b : Bool). T (not b)) (sym (sym (nanBits-is f n) ∙ e)) tt)
 
-bits32 : (n : ℕ) → n < 4294967296 → valueBits (float32 n) ≡ n
+pub bits32 : (n : ℕ) → n < 4294967296 → valueBits (float32 n) ≡ n
 unfolding float32
 bits32 n h = elim (test (nanBits binary32 n)) [ inl e ↦ rw (float32, e) | inr e ↦ rw (float32, e) (number-bits binary32 n h e) ]
 
-bits64 : (n : ℕ) → n < 18446744073709551616 → valueBits (float64 n) ≡ n
+pub bits64 : (n : ℕ) → n < 18446744073709551616 → valueBits (float64 n) ≡ n
 unfolding float64
 bits64 n h = elim (test (nanBits binary64 n)) [ inl e ↦ rw (float64, e) | inr e ↦ rw (float64, e) (number-bits binary64 n h e) ]
+
+pub kind32 : (n : ℕ) → valueKind (float32 n) ≡ 3
+unfolding float32
+kind32 n = elim (test (nanBits binary32 n)) [ inl e ↦ rw (float32, e) | inr e ↦ rw (float32, e) ]
+
+pub kind64 : (n : ℕ) → valueKind (float64 n) ≡ 4
+unfolding float64
+kind64 n = elim (test (nanBits binary64 n)) [ inl e ↦ rw (float64, e) | inr e ↦ rw (float64, e) ]
 
 -- a negative number: the pattern below a whole, in two's complement of 64 bits
 below : (n k : ℕ) → n < suc k → pos n -ℤ pos (suc k) ≡ negsuc (k - n)
 below n k h =
     let d : suc k - suc n ≡ k - n = omega arith in
     ap (λ b. cond b (negsuc (suc k - suc n)) (pos (n - suc k))) (lt-ltb n (suc k) h) ∙ ap negsuc d
+
+pub kind-signed : (n whole : ℕ) → valueKind (signedBy n whole) ≡ 1
+unfolding signedBy
+kind-signed n whole = elim (test (ltb (2 * n) whole)) [ inl e ↦ rw (signedBy, e) | inr e ↦ rw (signedBy, e) ]
+
+-- the lower half of the patterns are themselves, the upper half lie below 0
+pub signed-low : (n whole : ℕ) → 2 * n < whole → valueBits (signedBy n whole) ≡ n
+unfolding signedBy
+signed-low n whole h = rw (signedBy, lt-ltb _ _ h)
+
+pub signed-high : (n k : ℕ) → n < suc k → suc k ≤ 2 * n → k < 18446744073709551616 → valueBits (signedBy n (suc k)) + suc k ≡ n + 18446744073709551616
+unfolding signedBy
+signed-high n k h l m = rw (signedBy, le-ltb _ _ l, below n k h) (omega arith)
 
 -- the lower bytes of a signed number's bits, where as many patterns as there are divide 64 bits
 signed-bits : (n k times : ℕ) → n < suc k → suc k * times ≡ 18446744073709551616 → valueBits (signedBy n (suc k)) % suc k ≡ n

@@ -1,21 +1,28 @@
--- What a reader wants to know of the values of Vdatas: their bits are exactly the element's, and they lie inside it. Assumes nothing.
+-- What a reader wants to know of the values of Vdatas: their bits are exactly the element's, they lie inside it, which values are given and which
+-- are refused, and what is given as facts. Assumes nothing.
 use Prim.Native.Nat.{ℕ, _+_, _%_, _^_, _≤_}
 use native.Mathlib.Omega.{arith}
-use mathlib.Core.Path.{_≡_}
-use mathlib.Core.List.{List}
-use lib.ListN.{length}
+use mathlib.Core.Path.{_≡_, sym, ap, _∙_}
+use mathlib.Core.Logic.{_↔_}
+use mathlib.Core.List.{List, [], _∷_}
+use lib.ListN.{length, getD}
+use Rattle.answer.specs.Answer.{grant, refuse}
+use Rattle.answer.specs.Rules.{AllHold, FirstBroken}
 use Rattle.wire.specs.Numbers.{be, Bytes}
 use Rattle.directory.specs.Lookup.{find}
 use Rattle.records.specs.Readings.{recordBytes}
 use Rattle.records.specs.Types.{signed, widthOf, kindOf}
+use Rattle.records.proofs.Readings.{plain-bytes, content-bytes}
+use Rattle.records.proofs.RecordRules.{by-exactly}
 use Rattle.vhead.specs.Limits.{head-tag}
 use Rattle.vhead.specs.Heads.{headIn, fieldAt}
-use Rattle.vhead.proofs.HeadsRead.{head-passed}
-use Rattle.vhead.proofs.HeadsJudged.{sound-sized}
-use Rattle.vdata.specs.Patterns.{valueAt, valueBits}
+use Rattle.vhead.proofs.Heads.{head-is}
+use Rattle.vdata.specs.Patterns.{valueAt, valueKind, valueBits}
 use Rattle.vdata.specs.Limits.{values-tag}
-use Rattle.vdata.specs.Values.{placeOf, valueOf}
-use Rattle.vdata.proofs.Values.{index-inside, lies, value-granted}
+use Rattle.vdata.specs.Values.{placeOf, valueIn, valueOf}
+use Rattle.vdata.specs.ValueRules.{ValueIs, Readable, valueRules}
+use Rattle.vdata.proofs.Values.{granted-readable, readable-granted}
+use Rattle.vdata.proofs.ValueRules.{lies-inside, facts-hold, value-once, value-by}
 use Rattle.vdata.proofs.Patterns.{exact}
 
 -- ---- Bits
@@ -38,7 +45,50 @@ pub value-inside : (s : List ℕ) (ref r i c : ℕ) → valueOf s ref r i c .num
     → let e = recordBytes s (find s head-tag ref) in let f = fieldAt e (headIn e) i in
     placeOf (headIn e) f r c + widthOf (f .code) ≤ length (recordBytes s (find s values-tag ref))
 value-inside s ref r i c g =
-    let x = value-granted s ref r i c g in
+    let x = granted-readable s ref r i c g in
     let e = recordBytes s (find s head-tag ref) in
-    let k = index-inside (headIn e) (fieldAt e (headIn e) i) r i c (x .indices) in
-    omega (arith, lies (headIn e) (fieldAt e (headIn e) i) r c (sound-sized _ (fieldAt e (headIn e)) _ i (head-passed e (x .sound) .fields) (k .1)) (k .0) (k .2), x .whole)
+    rw (head-is e) (omega (arith, lies-inside e (x .sound) r i c (x .indexed), x .whole))
+
+-- ---- What is granted and what is refused
+
+module _ (s : List ℕ) (ref r i c : ℕ) where
+  pub value-granted : (valueOf s ref r i c .number ≡ 0) ↔ AllHold (valueRules s ref r i c)
+  value-granted = by-exactly 2 _ _ (value-by s ref r i c) .0
+
+  pub value-refused : (n p : ℕ) → ((valueOf s ref r i c ≡ refuse 2 n p) × (n ≡ 0 → ⊥)) ↔ FirstBroken (valueRules s ref r i c) n p
+  value-refused = by-exactly 2 _ _ (value-by s ref r i c) .1
+
+-- ---- A value as facts
+
+-- a value is given exactly if there is one to read
+pub value-granted-exactly : (s : List ℕ) (ref r i c : ℕ) → (valueOf s ref r i c .number ≡ 0) ↔ Readable s ref r i c
+value-granted-exactly s ref r i c = (granted-readable s ref r i c, λ x. ap (λ a. a .number) (readable-granted s ref r i c x))
+
+-- what is given is a kind and bits
+pub value-answer : (s : List ℕ) (ref r i c : ℕ) → valueOf s ref r i c .number ≡ 0 → (kind : ℕ) × (bits : ℕ) × (valueOf s ref r i c ≡ grant (kind ∷ bits ∷ []))
+value-answer s ref r i c g =
+    let x = valueIn (recordBytes s (find s head-tag ref)) (recordBytes s (find s values-tag ref)) r i c in
+    (valueKind x, valueBits x, readable-granted s ref r i c (granted-readable s ref r i c g))
+
+module _ (s : List ℕ) (ref r i c kind bits : ℕ) (b : Bytes s) where
+  -- the facts of what is answered
+  answer-facts : Readable s ref r i c → let x = valueIn (recordBytes s (find s head-tag ref)) (recordBytes s (find s values-tag ref)) r i c in
+      ValueIs (recordBytes s (find s 1962 ref)) (recordBytes s (find s 1963 ref)) r i c (valueKind x) (valueBits x)
+  answer-facts x =
+      let own : Bytes (recordBytes s (find s values-tag ref)) = rw (plain-bytes s values-tag ref (x .values .slot) (x .values .found) (x .values .plain)) (content-bytes s (x .values .slot) b) in
+      facts-hold (recordBytes s (find s head-tag ref)) (x .sound) r i c (x .indexed) (recordBytes s (find s values-tag ref)) own (x .whole)
+
+  -- where it lies, and its kind and its bits by the bytes that stand there
+  pub value-facts : valueOf s ref r i c ≡ grant (kind ∷ bits ∷ [])
+      → ValueIs (recordBytes s (find s 1962 ref)) (recordBytes s (find s 1963 ref)) r i c kind bits
+  value-facts g =
+      let x = granted-readable s ref r i c (ap (λ a. a .number) g) in
+      let same = sym g ∙ readable-granted s ref r i c x in
+      rw (ap (λ a. getD (a .values) 0 0) same, ap (λ a. getD (a .values) 1 0) same) (answer-facts x)
+
+  -- and the facts tell the answer
+  pub value-given : Readable s ref r i c → ValueIs (recordBytes s (find s 1962 ref)) (recordBytes s (find s 1963 ref)) r i c kind bits
+      → valueOf s ref r i c ≡ grant (kind ∷ bits ∷ [])
+  value-given x is =
+      let same = value-once _ _ r i c _ _ _ _ is (answer-facts x) in
+      rw (same .0, same .1) (readable-granted s ref r i c x)

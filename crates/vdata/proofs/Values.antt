@@ -1,20 +1,20 @@
--- A value of a Vdata by its indices: the rules in order, and where it lies. Assumes nothing.
+-- A value of a Vdata by its indices: the rules in order, where it lies, and which values are given. Assumes nothing.
 use Prim.Native.Nat.{ℕ, _+_, _*_, _<_, _≤_}
 use native.Mathlib.Nat.{suc-ne-zero, mul-le-mul, mul-le-mul-left, mul-le-mul-right, add-mul, mul-add, one-mul}
 use native.Mathlib.Omega.{arith}
-use mathlib.Core.Path.{_≡_, sym, ap, _∙_, subst}
+use mathlib.Core.Path.{_≡_, refl, sym, ap, _∙_, subst}
 use mathlib.Core.Logic.{inl, inr}
 use mathlib.Core.List.{List, [], _∷_}
 use lib.ListN.{length}
 use lib.Dec.{ltb}
 use borrow.Author.Tests.{lt-ltb, le-ltb, ltb-true, le-leb, lt-leb, leb-true}
 use Rattle.answer.specs.Refusals.{RECORD, NO-VALUE}
-use Rattle.answer.specs.Answer.{Answer, grant, refuse, unless}
+use Rattle.answer.specs.Answer.{Answer, grant, refuse, refusal, unless}
 use Rattle.answer.specs.Search.{Hit}
 use Rattle.answer.specs.declared.Refusal.{Refusal}
 use Rattle.answer.proofs.Tests.{zero?}
 use Rattle.answer.proofs.Search.{must-holds, must-fails, passed}
-use Rattle.answer.proofs.Answer.{unless-passes, unless-stops, unless-passed}
+use Rattle.answer.proofs.Answer.{refusal-is, unless-passes, unless-stops, unless-passed}
 use Rattle.wire.specs.Numbers.{part, Bytes}
 use Rattle.wire.proofs.Numbers.{be-small}
 use Rattle.directory.specs.Slots.{contentAt}
@@ -27,17 +27,19 @@ use Rattle.storage.specs.declared.element.Located.{Located}
 use Rattle.storage.specs.declared.element.Located.the-variants as located
 use Rattle.records.specs.Types.{widthOf}
 use Rattle.records.specs.Readings.{recordAt, recordBytes}
-use Rattle.records.proofs.Readings.{reads-refusal, reads-broken, reads-passed, reads-bytes, record-granted}
+use Rattle.records.proofs.Readings.{reads-refusal, reads-broken, reads-passed, reads-bytes, plain-bytes, content-passes, record-granted}
 use Rattle.vhead.specs.Limits.{head-tag}
 use Rattle.vhead.specs.Heads.{headIn, headFault, fieldAt}
+use Rattle.vhead.specs.HeadRules.{recordsOf, recordSizeOf}
 use Rattle.vhead.specs.Steps.{Narrow}
 use Rattle.vhead.specs.declared.field.Numbers.{Numbers}
 use Rattle.vhead.specs.declared.head.Head.{Head}
 use Rattle.vhead.proofs.HeadsJudged.{size-low, Sized}
-use Rattle.vhead.proofs.Heads.{head-is}
+use Rattle.vhead.proofs.Heads.{placed, head-is}
 use Rattle.vdata.specs.Limits.{values-tag}
 use Rattle.vdata.specs.Patterns.{valueAt, valueKind, valueBits}
 use Rattle.vdata.specs.Values.{indexFault, placeOf, valuesFault, valueIn, valueAfter, valueFound, valueOf, Gives}
+use Rattle.vdata.specs.ValueRules.{Indexed, Readable}
 use Rattle.vdata.specs.declared.value.Value.{Value}
 use Rattle.vdata.specs.declared.value.Answered.{Answered}
 use Rattle.vdata.specs.declared.value.Answered.the-variants as answered
@@ -159,7 +161,7 @@ lies h f r c z l m =
 
 -- ---- The answer
 
-pub gives-refused : (answer : Answer) (v : Value) (x : Refusal) → answer ≡ refuse 2 (x .number) (x .place) → Gives answer v (answered.Refused x)
+pub gives-refused : (answer : Answer) (v : Value) (x : Refusal) → answer ≡ refusal 2 x → Gives answer v (answered.Refused x)
 gives-refused answer v x e =
     record { answers = sym e; exact = λ y q. let z : _≡_ {A = ℕ} 0 1 = cc in absurd (omega arith) }
 
@@ -183,7 +185,7 @@ module _ (s e : List ℕ) (found : Hit) (r i c : ℕ) where
 
   pub after-index : (n : ℕ) → n ≡ fault → (n ≡ 0 → ⊥) → (v : Value) → Gives (valueAfter s e found r i c) v (answered.Refused (record { number = n; place = 0 }))
   unfolding valueAfter
-  after-index n is z v = gives-refused _ v _ (unless-stops 2 fault 0 _ (λ q. z (is ∙ q)) ∙ ap (λ k. refuse 2 k 0) (sym is))
+  after-index n is z v = gives-refused _ v _ (unless-stops 2 fault 0 _ (λ q. z (is ∙ q)) ∙ ap (λ k. refuse 2 k 0) (sym is) ∙ sym (refusal-is 2 _ z))
 
   module _ (inside : fault ≡ 0) (l : Located) (is : l ≡ locatedAt s found) where
     goes : valueAfter s e found r i c ≡ recordAt 2 s found (valuesFault h) given
@@ -240,16 +242,24 @@ read-opened s blocks ref r i c o x g =
     rw (opened-goes 2 s (valueFound s (find s head-tag ref) (find s values-tag ref) r i c) (o .sound))
     (rw (opened-find s blocks head-tag ref o, opened-find s blocks values-tag ref o) at g)
 
--- ---- What a granted call tells
+-- ---- Which values are given
 
-pub record Granted (s : List ℕ) (ref r i c : ℕ) : Type 0 where
-  pub sound : headFault (recordBytes s (find s head-tag ref)) ≡ 0
-  pub indices : let e = recordBytes s (find s head-tag ref) in indexFault (headIn e) (fieldAt e (headIn e) i) r i c ≡ 0
-  pub whole : let h = headIn (recordBytes s (find s head-tag ref)) in h .records * h .«record_size» ≤ length (recordBytes s (find s values-tag ref))
+module _ (e : List ℕ) (r i c : ℕ) where
+  indices-there : indexFault (headIn e) (fieldAt e (headIn e) i) r i c ≡ 0 → Indexed e r i c
+  indices-there z =
+      let x = index-inside (placed e) (fieldAt e (placed e) i) r i c (rw head-is at z) in
+      record { record-there = x .0; field-there = x .1; component-there = x .2 }
 
-pub value-granted : (s : List ℕ) (ref r i c : ℕ) → valueOf s ref r i c .number ≡ 0 → Granted s ref r i c
+  there-indices : Indexed e r i c → indexFault (headIn e) (fieldAt e (headIn e) i) r i c ≡ 0
+  there-indices x = rw (head-is e) (index-passes (placed e) (fieldAt e (placed e) i) r i c (x .record-there) (x .field-there) _ refl (x .component-there))
+
+all-records : (e : List ℕ) → headIn e .records * headIn e .«record_size» ≡ recordsOf e * recordSizeOf e
+all-records e = ap (λ h. h .records * h .«record_size») (head-is e)
+
+-- a call that is not refused
+pub granted-readable : (s : List ℕ) (ref r i c : ℕ) → valueOf s ref r i c .number ≡ 0 → Readable s ref r i c
 unfolding valueOf valueFound valueAfter valuesFault
-value-granted s ref r i c q =
+granted-readable s ref r i c q =
     let values = find s values-tag ref in
     let g = record-granted 2 s head-tag ref headFault (λ at e. valueAfter s e values r i c) q in
     let e = contentAt s (g .0) in
@@ -260,7 +270,33 @@ value-granted s ref r i c q =
     let b : opened 2 s answer .number ≡ 0 = ap (λ a. a .number) (opened-goes 2 s answer (g .1 .found .sound) ∙ sym (unless-passes 2 n 0 answer inside)) ∙ a in
     let v = record-granted 2 s values-tag ref (valuesFault (headIn e)) (given s e values r i c) b in
     record {
+      opens = g .1 .found .sound;
+      head = record { slot = g .0; found = g .1 .found .found; plain = g .1 .found .plain };
       sound = ap headFault (g .1 .bytes) ∙ g .1 .sound;
-      indices = ap (λ x. indexFault (headIn x) (fieldAt x (headIn x) i) r i c) (g .1 .bytes) ∙ inside;
-      whole = rw (g .1 .bytes, v .1 .bytes) (leb-true _ _ (passed _ 14 _ (v .1 .sound) .0));
+      indexed = rw (g .1 .bytes) (indices-there e r i c inside);
+      values = record { slot = v .0; found = v .1 .found .found; plain = v .1 .found .plain };
+      whole = rw (g .1 .bytes, v .1 .bytes, ← all-records e) (leb-true _ _ (passed _ 14 _ (v .1 .sound) .0));
     }
+
+-- the answer of a call that is granted
+abbrev pub answerOf : List ℕ → ℕ → ℕ → ℕ → ℕ → Answer
+answerOf s ref r i c =
+    let x = valueIn (recordBytes s (find s head-tag ref)) (recordBytes s (find s values-tag ref)) r i c in
+    grant (valueKind x ∷ valueBits x ∷ [])
+
+pub readable-granted : (s : List ℕ) (ref r i c : ℕ) → Readable s ref r i c → valueOf s ref r i c ≡ answerOf s ref r i c
+unfolding valueOf valueFound valueAfter valuesFault
+readable-granted s ref r i c x =
+    let values = find s values-tag ref in
+    let e = recordBytes s (find s head-tag ref) in
+    let h = headIn e in
+    let from = x .head in
+    let to = x .values in
+    let head-bytes = plain-bytes s head-tag ref (from .slot) (from .found) (from .plain) in
+    let value-bytes = plain-bytes s values-tag ref (to .slot) (to .found) (to .plain) in
+    let long = must-holds _ RECORD 0 (le-leb (h .records * h .«record_size») (length (recordBytes s values)) (rw (all-records e) (x .whole))) in
+    let g = content-passes 2 s head-tag ref headFault (λ at e. valueAfter s e values r i c) (from .slot) (x .opens) (from .found) (from .plain) (ap headFault (sym head-bytes) ∙ x .sound) in
+    let w = content-passes 2 s values-tag ref (valuesFault h) (given s e values r i c) (to .slot) (x .opens) (to .found) (to .plain) (ap (valuesFault h) (sym value-bytes) ∙ long) in
+    g .answers ∙ ap (λ b. valueAfter s b values r i c) (sym head-bytes)
+    ∙ unless-passes 2 _ 0 _ (there-indices e r i c (x .indexed))
+    ∙ sym (opened-goes 2 s _ (x .opens)) ∙ w .answers ∙ ap (given s e values r i c 0) (sym value-bytes)

@@ -4,7 +4,7 @@ use mathlib.Core.Path.{_≡_}
 use mathlib.Core.List.{List, [], _∷_}
 use lib.ListN.{length}
 use lib.Dec.{ltb, leb}
-use Rattle.answer.specs.Answer.{Answer, grant, refuse, unless}
+use Rattle.answer.specs.Answer.{Answer, grant, refusal, unless}
 use Rattle.answer.specs.Search.{must, Hit}
 use Rattle.answer.specs.Refusals.{RECORD, NO-VALUE}
 use Rattle.directory.specs.Opening.{opened}
@@ -41,7 +41,7 @@ valuesFault h v = must (leb (h .records * h .«record_size») (length v)) RECORD
 -- a value answers its kind and its bits
 abbrev pub valueNumbers : Answered → Answer
 valueNumbers (answered.Value v) = grant (valueKind v ∷ valueBits v ∷ [])
-valueNumbers (answered.Refused r) = refuse 2 (r .number) (r .place)
+valueNumbers (answered.Refused r) = refusal 2 r
 
 -- the value of a granted call, in the bytes e of the head and v of the values
 unfoldable pub valueIn : List ℕ → List ℕ → ℕ → ℕ → ℕ → Value

@@ -8,8 +8,8 @@ use lib.Seq.{sets}
 use lib.Dec.{leb, eqb}
 use borrow.Author.Tests.{leb-true, le-leb, lt-leb, eqb-true, eq-eqb, ne-eqb}
 use Rattle.wire.specs.Numbers.{be, bytes, put, part, Bytes, Reads}
-use Rattle.wire.proofs.Numbers.{length-bytes}
-use Rattle.answer.specs.Answer.{grant, refuse, Answer, inRoom}
+use Rattle.wire.proofs.Numbers.{be-small, length-bytes}
+use Rattle.answer.specs.Answer.{grant, refuse, refusal, Answer, inRoom}
 use Rattle.answer.specs.Refusals.{SMALL, RECORD}
 use Rattle.directory.specs.Limits.{most-bytes}
 use Rattle.directory.specs.Slots.{contentAt}
@@ -18,14 +18,14 @@ use Rattle.answer.proofs.Search.{must-holds, must-fails, passed}
 use Rattle.answer.specs.Lent.{Does}
 use Rattle.answer.specs.Search.{Hit}
 use Rattle.answer.proofs.Lent.{refuses}
-use Rattle.storage.specs.Elements.{startAt, locatedAt, bytesAt, onPlain}
+use Rattle.storage.specs.Elements.{startAt, locatedAt, bytesAt, offsetIn, startOf, onPlain}
 use Rattle.storage.specs.declared.element.Located.the-variants.{Plain, Refused}
 use Rattle.records.specs.Limits.{most-count}
 use Rattle.wire.specs.Layouts.{read, extent, pack, numbersAt, bytesEach}
 use Rattle.records.specs.Readings.{recordAt, recordBytes}
 use Rattle.wire.proofs.Layouts.{length-numbersAt, length-bytesEach, numbersAt-next}
 use Rattle.records.proofs.Readings.{sound-plain, sound-positive, reads-list, record-granted}
-use Rattle.answer.proofs.Answer.{inRoom-enough, inRoom-short, inRoom-passed}
+use Rattle.answer.proofs.Answer.{refusal-is, inRoom-enough, inRoom-short, inRoom-passed}
 use Rattle.vset.specs.Limits.{only-version}
 use Rattle.vset.specs.Columns.{rows2, every}
 use Rattle.vset.specs.Tails.{tail, tailNumbers, tailPackFault, namesEnd}
@@ -65,6 +65,10 @@ tail-after e = let a : 2 + 4 * be 2 e 0 ≡ 2 + 2 * be 2 e 0 + 2 * be 2 e 0 = om
 pub members-inside : (e : List ℕ) → 2 + 4 * groupIn e .members + 12 ≤ groupIn e .tail .end
 unfolding read
 members-inside e = omega arith
+
+pub members-few : (e : List ℕ) → Bytes e → groupIn e .members < 65536
+unfolding read
+members-few e b = be-small 2 e 0 b
 
 -- ---- Its rules
 
@@ -138,9 +142,11 @@ module _ (s : List ℕ) (found : Hit) (list : List ℕ) where
   abbrev ReadsGroup : Answer → List ℕ → Type 0
   ReadsGroup numbers after = Does (groupAt s found (length list)) (groupMembers (recordBytes s found)) list after numbers
 
-  pub unsound : (x : Refusal) → soundGroup s found ≡ Refused x → (r : Refusal) → r ≡ x → ReadsGroup (refuse 9 (r .number) (r .place)) list
+  pub unsound : (x : Refusal) → soundGroup s found ≡ Refused x → (r : Refusal) → r ≡ x → ReadsGroup (refusal 9 r) list × (r .number ≡ 0 → ⊥)
   unfolding groupAt recordAt
-  unsound x e r is = rw is (refuses _ _ list 9 _ _ (ap (onPlain 9 _) e) (sound-positive groupFault s found x e))
+  unsound x e r is =
+      let z = sound-positive groupFault s found x e in
+      rw is (refuses _ _ list 9 x (ap (onPlain 9 _) e ∙ refusal-is 9 x z) z, z)
 
   -- the element is sound, and e is its bytes
   module _ (p o n : ℕ) (sound : soundGroup s found ≡ Plain p o n) (e : List ℕ) (is : e ≡ part s o n) (g : Group) (parsed : g ≡ groupIn e) where
@@ -148,8 +154,14 @@ module _ (s : List ℕ) (found : Hit) (list : List ℕ) where
     unfolding groupAt recordAt
     goes = ap (onPlain 9 _) sound ∙ rw (parsed, is)
 
+    -- all that the record is read as
+    pub held : (startOf s found ≡ o) × (g ≡ read group (recordBytes s found) 0)
+    held =
+        let l = sound-plain groupFault s (locatedAt s found) p o n sound .0 in
+        (ap offsetIn l, parsed ∙ ap (λ x. read group x 0) (is ∙ sym (ap (bytesAt s) l)))
+
     pub small : length list < 2 * g .members → ReadsGroup (refuse 9 SMALL 0) list
-    small h = refuses _ _ list 9 SMALL 0 (goes ∙ inRoom-short 9 _ _ (lt-leb _ _ h)) (λ z. omega arith)
+    small h = refuses _ _ list 9 (record { number = SMALL; place = 0 }) (goes ∙ inRoom-short 9 _ _ (lt-leb _ _ h)) (λ z. omega arith)
 
     pub listed : 2 * g .members ≤ length list → (after : List ℕ)
         → after ≡ sets list 0 (rows2 (numbersAt 2 (g .members) e 2) (numbersAt 2 (g .members) e (2 + 2 * g .members))) → ReadsGroup (grant (groupValues o g)) after

@@ -12,10 +12,10 @@ use Rattle.vset.specs.Tails.{tail, tailNumbers}
 use Rattle.vset.specs.declared.tail.Tail.{Tail}
 use Rattle.vset.specs.declared.tail.Ending.{Ending}
 use Rattle.vset.proofs.Columns.{append-split, length-every, take-column, drop-column, every-small, rows2-first, rows2-second, rows2-every}
-use Rattle.vset.proofs.Tails.{Narrow, tailIn, endingOf, tailGiven, numbers-tail, given-tail, tail-fits, tail-parts}
-use Rattle.vgroup.specs.Groups.{group, groupFault, groupMembers, groupBytes}
+use Rattle.vset.proofs.Tails.{Narrow, tailIn, endingOf, tailGiven, numbers-tail, given-tail, tail-fits, tail-parts, fault-sound, tail-own}
+use Rattle.vgroup.specs.Groups.{group, groupFault, groupMembers, groupBytes, groupPackFault}
 use Rattle.vgroup.specs.declared.group.Group.{Group}
-use Rattle.vgroup.proofs.Groups.{groupIn, group-ends, group-passed, group-sound, tail-after, members-are, length-members, PackSound}
+use Rattle.vgroup.proofs.Groups.{groupIn, group-ends, group-passed, group-sound, tail-after, members-few, members-are, length-members, pack-tail-fault, PackSound}
 
 -- the numbers of a group with these members, in the order of the record
 abbrev numbersOf : List ℕ → List ℕ → List ℕ → Ending → List ℕ
@@ -58,6 +58,15 @@ module _ (e : List ℕ) (sound : groupFault e ≡ 0) where
       ap (λ xs. pack group xs 0) (sym own-numbers)
       ∙ pack-numbers group e 0 b (omega (arith, group-ends e))
       ∙ ap (part e 0) (let z : extent group e 0 - 0 ≡ groupIn e .tail .end = omega (arith, group-ends e) in z)
+
+  -- and what was read breaks no rule of packing
+  pub own-passes : Bytes e → let t = groupIn e .tail in
+      groupPackFault (length (groupMembers e)) (length (part e (t .name) (t .«name_length»))) (length (part e (t .class) (t .«class_length»))) (t .version) ≡ 0
+  own-passes b =
+      let passed = group-passed e sound in
+      let few : groupIn e .members < 65536 = members-few e b in
+      pack-tail-fault _ _ _ _ (omega (arith, length-members e)) (omega (arith, length-members e))
+      ∙ fault-sound _ _ _ (rw (tail-after e) (tail-own e _ b (rw tail-after at (passed .0)) (rw tail-after at (passed .1)))) 0
 
 -- ---- Reading what was packed
 

@@ -1,7 +1,10 @@
 pub mod Groups
 pub mod GroupsBack
+pub mod GroupFacts
 pub mod GroupClaims
 pub mod Listings
 pub mod ListingsFound
 pub mod ListingsAnswered
+pub mod ListFacts
+pub mod ListFaults
 pub mod ListClaims

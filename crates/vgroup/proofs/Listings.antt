@@ -77,18 +77,18 @@ listed-few groups s p b room =
 -- ---- The invariant
 
 -- a listing after what was listed before it
-abbrev joined : List ℕ → Listing → Listing
+abbrev pub joined : List ℕ → Listing → Listing
 joined done l = record { pairs = done ++ l .pairs; number = l .number; place = l .place }
 
-regroup : (xs ys : List ℕ) (l : Listing) → joined xs (joined ys l) ≡ joined (xs ++ ys) l
+pub regroup : (xs ys : List ℕ) (l : Listing) → joined xs (joined ys l) ≡ joined (xs ++ ys) l
 regroup xs ys l = ap (λ ps. record { pairs = ps; number = l .number; place = l .place }) (sym (append-assoc xs ys (l .pairs)))
 
 -- two listings of which the first was refused, or not
-stays : (l more : Listing) → (l .number ≡ 0 → ⊥) → followedBy l more ≡ l
+pub stays : (l more : Listing) → (l .number ≡ 0 → ⊥) → followedBy l more ≡ l
 unfolding followedBy
 stays l more z = elim (zero? (l .number)) [ inl q ↦ absurd (z q) | inr m ↦ rw (followedBy, m .1) (rw (← m .1)) ]
 
-goes-on : (l more : Listing) → l .number ≡ 0 → followedBy l more ≡ joined (l .pairs) more
+pub goes-on : (l more : Listing) → l .number ≡ 0 → followedBy l more ≡ joined (l .pairs) more
 unfolding followedBy
 goes-on l more z = rw z
 

@@ -1,11 +1,11 @@
 -- What a listing answers and leaves in the lent table, by the walk that judges and the walk that writes. Assumes nothing.
 use Prim.Native.Nat.{ℕ, _*_, _/_, _≤_}
 use native.Mathlib.Omega.{arith}
-use mathlib.Core.Path.{_≡_, sym, ap, _∙_}
+use mathlib.Core.Path.{_≡_, refl, sym, ap, _∙_}
 use mathlib.Core.List.{List, [], _∷_, _++_}
 use lib.ListN.{length, drop}
 use Rattle.answer.specs.Search.{Hit}
-use Rattle.answer.specs.Answer.{Answer, grant, refuse, unless}
+use Rattle.answer.specs.Answer.{Answer, grant, refusal, unless}
 use Rattle.answer.specs.Lent.{Does}
 use Rattle.answer.specs.declared.Refusal.{Refusal}
 use Rattle.answer.proofs.Answer.{unless-passes, unless-stops}
@@ -26,13 +26,15 @@ module _ (s : List ℕ) (found : Hit) (table : List ℕ) where
   Lists after numbers = Does (listingAt s found (length table)) (pairsAt s found (length table)) table after numbers
 
   -- the listing is refused
-  refused : (l : Listing) → listingIn s found (length table) ≡ l → (l .number ≡ 0 → ⊥) → Lists table (refuse 1 (l .number) (l .place))
+  refused : (l : Listing) → listingIn s found (length table) ≡ l → (l .number ≡ 0 → ⊥) → (r : Refusal) → r .number ≡ l .number → r .place ≡ l .place → Lists table (refusal 1 r)
   unfolding listingAt
-  refused l e z = refuses _ _ table 1 _ _ (ap (λ m. unless 1 (m .number) (m .place) (grant (length (m .pairs) / 2 ∷ []))) e ∙ unless-stops 1 (l .number) (l .place) _ z) z
+  refused l e z r n p =
+      refuses _ _ table 1 r
+      (ap (λ m. unless 1 (m .number) (m .place) (grant (length (m .pairs) / 2 ∷ []))) e ∙ unless-stops 1 (l .number) (l .place) _ z ∙ rw (n, p)) (λ q. z (sym n ∙ q))
 
   -- the named group is absent, extended or broken
-  pub unnamed : (x : Refusal) → soundGroup s found ≡ Refused x → Lists table (refuse 1 (x .number) (x .place))
-  unnamed x e = refused _ (ap (λ y. entered s (listFrom most-groups s) y (placesIn (length table))) e) (sound-positive groupFault s found x e)
+  pub unnamed : (x : Refusal) → soundGroup s found ≡ Refused x → (r : Refusal) → r ≡ x → Lists table (refusal 1 r)
+  unnamed x e r is = rw is (refused _ (ap (λ y. entered s (listFrom most-groups s) y (placesIn (length table))) e) (sound-positive groupFault s found x e) x refl refl)
 
   module _ (p o n : ℕ) (g : soundGroup s found ≡ Plain p o n) (room : ℕ) (room-is : room ≡ placesIn (length table)) (e : List ℕ) (of : e ≡ part s o n) where
     abbrev l : Listing
@@ -43,9 +45,9 @@ module _ (s : List ℕ) (found : Hit) (table : List ℕ) where
 
     -- the walk that judges, over no table
     module _ (r : Walked) (after : List ℕ) (walks : Walks l 0 [] after r) where
-      pub judged-refused : (r .number ≡ 0 → ⊥) → Lists (after ++ table) (refuse 1 (r .number) (r .place))
+      pub judged-refused : (r .number ≡ 0 → ⊥) → Lists (after ++ table) (refusal 1 (record { number = r .number; place = r .place }))
       judged-refused z =
-          rw (walks .number, walks .place, put-nowhere table (l .pairs) after (walks .leaves)) (refused l named (λ q. z (walks .number ∙ q)))
+          rw (put-nowhere table (l .pairs) after (walks .leaves)) (refused l named (λ q. z (walks .number ∙ q)) _ (walks .number) (walks .place))
 
       -- and the walk that writes
       pub listed : r .number ≡ 0 → (w : Walked) (filled : List ℕ) → Walks l 0 (after ++ table) filled w → Lists filled (grant (w .pairs ∷ []))

@@ -3,7 +3,7 @@ use Prim.Native.Nat.{ℕ, _*_, _/_, _%_}
 use mathlib.Core.List.{List, _∷_, _++_}
 use lib.ListN.{length}
 use lib.Dec.{leb, eqb}
-use Rattle.answer.specs.Answer.{Answer, grant, refuse, inRoom}
+use Rattle.answer.specs.Answer.{Answer, grant, refusal, inRoom}
 use Rattle.answer.specs.Search.{must, Hit}
 use Rattle.records.specs.Limits.{most-count}
 use Rattle.answer.specs.Refusals.{RECORD}
@@ -41,7 +41,7 @@ groupValues start g = g .members ∷ tailValues start (g .tail)
 
 abbrev pub groupNumbers : Answered → Answer
 groupNumbers (Values start g) = grant (groupValues start g)
-groupNumbers (Refused r) = refuse 9 (r .number) (r .place)
+groupNumbers (Refused r) = refusal 9 r
 
 -- the element of a group that is sound, or the refusal: 11, 12, 15
 abbrev pub soundGroup : List ℕ → Hit → Located

@@ -6,7 +6,7 @@ use lib.ListN.{length}
 use lib.Dec.{eqb}
 use Rattle.answer.specs.Refusals.{SMALL, DEEP}
 use Rattle.answer.specs.Search.{Hit}
-use Rattle.answer.specs.Answer.{Answer, grant, refuse, unless}
+use Rattle.answer.specs.Answer.{Answer, grant, refusal, unless}
 use Rattle.wire.specs.Numbers.{part}
 use Rattle.directory.specs.Opening.{opened}
 use Rattle.directory.specs.Lookup.{find}
@@ -70,7 +70,7 @@ placesIn room = min (room / 2) most-pairs
 
 abbrev pub pairsNumbers : Listed → Answer
 pairsNumbers (listed.Pairs n) = grant (n ∷ [])
-pairsNumbers (listed.Refused r) = refuse 1 (r .number) (r .place)
+pairsNumbers (listed.Refused r) = refusal 1 r
 
 -- the listing of the group at what a lookup found
 abbrev pub listingIn : List ℕ → Hit → ℕ → Listing

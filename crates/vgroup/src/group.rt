@@ -25,6 +25,7 @@ ghost use Rattle.records.specs.Packings.{packedNumbers, Packs};
 ghost use Rattle.vgroup.specs.Limits as Limits;
 ghost use Rattle.vset.specs.Columns as Columns;
 ghost use Rattle.vgroup.specs.Groups as Groups;
+ghost use Rattle.vgroup.specs.Steps as Steps;
 
 // How many members, where their tags and references stand in the record, and the fields after them.
 pub struct Group {
@@ -106,9 +107,10 @@ pub fn find(image: &[u8], blocks: usize, reference: u16) -> Located
 
 // Reads the group of a reference in a chain of so many blocks: its numbers, and tag and reference of each member to a lent list.
 pub fn read_in(image: &[u8], blocks: usize, reference: u16, members: &mut [u16]) -> Answered
-    ensures { λ r. ⌜ (let s = now (image .entry) in let found = findIn s blocks Limits.group-tag reference in
+    ensures answer { λ r. ⌜ (let s = now (image .entry) in let found = findIn s blocks Limits.group-tag reference in
         Does (Groups.groupAt s found (length (now (members .entry)))) (Groups.groupMembers (recordBytes s found))
         (now (members .entry)) (now (members .exit)) (Groups.groupNumbers r)) ⌝ }
+    ensures held { λ r. ⌜ (let s = now (image .entry) in Steps.Held s (findIn s blocks Limits.group-tag reference) r) ⌝ }
 {
     let located = find(image, blocks, reference);
     let Located::Plain {
@@ -136,9 +138,10 @@ pub fn read_in(image: &[u8], blocks: usize, reference: u16, members: &mut [u16])
 
 // The same in an image that is opened first.
 pub fn read(image: &[u8], reference: u16, members: &mut [u16]) -> Answered
-    ensures { λ r. ⌜ (let s = now (image .entry) in
+    ensures answer { λ r. ⌜ (let s = now (image .entry) in
         Does (Groups.groupOf s reference (length (now (members .entry)))) (Groups.groupMembers (recordBytes s (find s Limits.group-tag reference)))
         (now (members .entry)) (now (members .exit)) (Groups.groupNumbers r)) ⌝ }
+    ensures held { λ r. ⌜ (let s = now (image .entry) in Steps.Held s (find s Limits.group-tag reference) r) ⌝ }
 {
     let opened = directory::open(image);
     let Opened::Accepted(counts) = opened else {

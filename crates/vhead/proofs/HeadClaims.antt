@@ -1,4 +1,4 @@
--- What a reader may rely on of Vdata heads: packing gives back the bytes that were read, and reading gives back what was packed. Assumes nothing.
+-- What a reader may rely on of Vdata heads: packing what was read is granted and gives back its bytes, and reading gives back what was packed. Assumes nothing.
 use Prim.Native.Nat.{ℕ, _+_, _*_, _/_, _<_, _≤_, min}
 use native.Mathlib.Omega.{arith}
 use mathlib.Core.Path.{_≡_, ap, _∙_}
@@ -8,38 +8,42 @@ use lib.ListN.{length, getD}
 use lib.Dec.{leb}
 use borrow.Author.Tests.{le-leb}
 use Rattle.wire.specs.Numbers.{part, Bytes}
-use Rattle.wire.proofs.Numbers.{bytes-part}
 use Rattle.answer.specs.Answer.{grant, inRoom}
 use Rattle.answer.specs.Search.{hit}
 use Rattle.directory.specs.Slots.{contentAt}
 use Rattle.directory.specs.Opening.{openOf}
 use Rattle.directory.specs.Lookup.{find}
-use Rattle.storage.specs.Elements.{extendedAt, startAt, plainOnly}
+use Rattle.storage.specs.Elements.{extendedAt, startAt, plainOnly, offsetIn, startOf}
 use Rattle.records.specs.Readings.{recordBytes}
-use Rattle.records.proofs.Readings.{record-granted, content-passes}
+use Rattle.records.specs.Packings.{PacksBack}
+use Rattle.records.proofs.Readings.{record-granted, content-passes, content-bytes}
+use Rattle.records.proofs.Packings.{packs-back}
 use Rattle.answer.proofs.Answer.{inRoom-enough}
 use Rattle.vset.specs.Columns.{every}
 use Rattle.vset.specs.Tails.{tail}
 use Rattle.vset.specs.declared.tail.Ending.{Ending}
 use Rattle.vset.proofs.Tails.{Narrow, endingOf}
 use Rattle.vhead.specs.Limits.{head-tag}
-use Rattle.vhead.specs.Heads.{headIn, headFault, headFields, headNames, offsetIn, startOf, headValues, headAt, headWithin, headOf, headBytes, headPackFault}
+use Rattle.vhead.specs.Heads.{headIn, headFault, headFields, headNames, headValues, headAt, headWithin, headOf, headBytes, headPackFault}
 use Rattle.vhead.specs.declared.head.Start.{Start}
 use Rattle.vhead.proofs.HeadsPacked.{pack-passed}
 use Rattle.vhead.proofs.HeadsNamed.{partsAt, found-within}
-use Rattle.vhead.proofs.HeadsBack.{startIn, pack-own, read-back}
+use Rattle.vhead.proofs.HeadsBack.{startIn, pack-own, own-passes, read-back}
 
 -- ---- Packing what was read
 
 pub head-packs : (s : List ℕ) (ref a b : ℕ) → Bytes s → headOf s ref a b .number ≡ 0
-    → let e = recordBytes s (find s head-tag ref) in let h = headIn e in
-    headBytes (startIn h) (headFields e) (every 1 2 (h .fields) (headNames 0 e)) (partsAt e (headNames 0 e))
-    (part e (h .tail .name) (h .tail .«name_length»)) (part e (h .tail .class) (h .tail .«class_length»)) (endingOf (h .tail))
-    ≡ part e 0 (h .tail .end)
+    → let e = recordBytes s (find s head-tag ref) in let h = headIn e in let t = h .tail in
+    let rows = headFields e in let lengths = every 1 2 (h .fields) (headNames 0 e) in let all = partsAt e (headNames 0 e) in
+    let name = part e (t .name) (t .«name_length») in let class = part e (t .class) (t .«class_length») in
+    PacksBack (headPackFault (startIn h) rows lengths (length all) (length name) (length class) (t .version))
+    (headBytes (startIn h) rows lengths all name class (endingOf t)) (part e 0 (t .end))
 unfolding headWithin headAt
 head-packs s ref a b bytes granted =
     let g = record-granted 12 s head-tag ref headFault _ granted in
-    rw (g .1 .bytes) (pack-own (contentAt s (g .0)) (g .1 .sound) (rw (← g .1 .found .content) (bytes-part s _ _ bytes)))
+    let e = contentAt s (g .0) in
+    let all-bytes = content-bytes s (g .0) bytes in
+    rw (g .1 .bytes) (packs-back _ _ _ (own-passes e (g .1 .sound) all-bytes) (pack-own e (g .1 .sound) all-bytes))
 
 -- ---- Reading what was packed
 

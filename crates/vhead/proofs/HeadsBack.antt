@@ -8,17 +8,19 @@ use lib.ListN.{length, getD, drop, length-append}
 use Rattle.wire.specs.Numbers.{be, part, Bytes}
 use Rattle.wire.specs.Layouts.{read, extent, numbers, pack, given, numbersAt, Fits}
 use Rattle.wire.proofs.Layouts.{length-numbersAt, pack-numbers, PackedAt, packed-at}
+use Rattle.vset.specs.Limits.{only-version}
 use Rattle.vset.specs.Columns.{every}
 use Rattle.vset.specs.Tails.{tail, tailNumbers, namesEnd}
 use Rattle.vset.specs.declared.tail.Tail.{Tail}
 use Rattle.vset.specs.declared.tail.Ending.{Ending}
-use Rattle.vset.proofs.Columns.{append-split, getD-every, take-column, drop-column, length-every, every-small, rows4-columns, rows4-every}
-use Rattle.vset.proofs.Tails.{Narrow, tailIn, endingOf, tailGiven, numbers-tail, given-tail, tail-fits, tail-parts}
-use Rattle.vhead.specs.Heads.{names, head, headIn, fieldAt, fieldsFrom, rowAt, fieldsOf, fieldsFault, headFault, headFields, nameRows, headNames, namesApart, total, headBytes}
+use Rattle.vset.proofs.Columns.{append-split, getD-every, take-column, drop-column, length-every, every-small, length-rows4, rows4-columns, rows4-every}
+use Rattle.vset.proofs.Tails.{Narrow, tailIn, endingOf, tailGiven, numbers-tail, given-tail, tail-fits, tail-parts, fault-sound, tail-own}
+use Rattle.vhead.specs.Limits.{most-head-interlace, most-fields}
+use Rattle.vhead.specs.Heads.{names, head, headIn, fieldAt, fieldsFrom, rowAt, fieldsOf, fieldsFault, headFault, headFields, nameRows, headNames, namesApart, total, headBytes, headPackFault}
 use Rattle.vhead.specs.declared.head.Head.{Head}
 use Rattle.vhead.specs.declared.head.Start.{Start}
 use Rattle.vhead.proofs.Heads.{startedHead, placedHead, same-places, names-place, startedIn, placed, head-is, head-ends, allFields, fields-are, columns-long, names-are}
-use Rattle.vhead.proofs.HeadsPacked.{namesAfter, after-is, headNumbersOf, PackSound}
+use Rattle.vhead.proofs.HeadsPacked.{fault-goes-on, namesAfter, after-is, headNumbersOf, PackSound}
 use Rattle.vhead.proofs.HeadsRead.{head-fields, head-passed}
 use Rattle.vhead.proofs.HeadsNamed.{partsAt, numbers-names, names-given, names-fit, parts-long, names-same, parts-image, lengths-image, Within}
 
@@ -76,45 +78,7 @@ module _ (e : List ℕ) where
         (numbers-names (tail f) n e (10 + 8 * n) names-inside
         ∙ ap (λ l. namesApart (every 1 2 n rows) (partsAt e rows) ++ l) (same-tail f e (namesEnd e n (10 + 8 * n))))
 
--- ---- Packing what was read
-
-module _ (e : List ℕ) (inside : placed e .tail .end ≤ length e) where
-  own-numbers : let n = be 2 e 8 in let rows = nameRows 0 e n (10 + 8 * n) in let t = placed e .tail in
-      numbers head e 0
-      ≡ numbersOf (startedIn e) (allFields e n) (every 1 2 n rows) (partsAt e rows) (part e (t .name) (t .«name_length»)) (part e (t .class) (t .«class_length»)) (endingOf t)
-  own-numbers =
-      let n = be 2 e 8 in
-      let rows = nameRows 0 e n (10 + 8 * n) in
-      let c = rows4-columns _ _ _ _ n (columns-long e n) in
-      let at = namesEnd e n (10 + 8 * n) in
-      rw (length-every 1 2 n rows, c .first, c .second, c .third, c .fourth)
-      (numbers-shape e inside
-      ∙ ap (λ l. fieldsThen e n (namesApart (every 1 2 n rows) (partsAt e rows) ++ l))
-      (numbers-tail (λ t. t) e at inside))
-
-  pack-placed : Bytes e → let n = be 2 e 8 in let rows = nameRows 0 e n (10 + 8 * n) in let t = placed e .tail in
-      headBytes (startedIn e) (allFields e n) (every 1 2 n rows) (partsAt e rows) (part e (t .name) (t .«name_length»)) (part e (t .class) (t .«class_length»)) (endingOf t)
-      ≡ part e 0 (t .end)
-  unfolding headBytes
-  pack-placed b =
-      let ends : extent head e 0 ≡ placed e .tail .end = head-ends e ∙ ap (λ h. h .tail .end) (head-is e) in
-      ap (λ xs. pack head xs 0) (sym own-numbers)
-      ∙ pack-numbers head e 0 b (omega arith)
-      ∙ ap (part e 0) (let z : extent head e 0 - 0 ≡ placed e .tail .end = omega arith in z)
-
--- the first numbers of a head that was read
-abbrev pub startIn : Head → Start
-startIn h = record { interlace = h .interlace; records = h .records; «record_size» = h .«record_size» }
-
-pub pack-own : (e : List ℕ) → headFault e ≡ 0 → Bytes e → let h = headIn e in
-    headBytes (startIn h) (headFields e) (every 1 2 (h .fields) (headNames 0 e)) (partsAt e (headNames 0 e))
-    (part e (h .tail .name) (h .tail .«name_length»)) (part e (h .tail .class) (h .tail .«class_length»)) (endingOf (h .tail))
-    ≡ part e 0 (h .tail .end)
-pack-own e sound b =
-    let inside : placed e .tail .end ≤ length e = rw head-is at (head-passed e sound .inside) in
-    rw (fields-are e, names-are 0 e, head-is e) (pack-placed e inside b)
-
--- ---- Reading what was packed
+-- ---- Fields
 
 getD-numbersAt : (width count : ℕ) (e : List ℕ) (at i : ℕ) → i < count → getD (numbersAt width count e at) i 0 ≡ be width e (at + width * i)
 unfolding numbersAt
@@ -144,6 +108,71 @@ module _ (e rows : List ℕ) (n : ℕ) (h : Head) (first : numbersAt 2 n e (h .t
   unfolding fieldsFrom
   same-rows zero i m = refl
   same-rows (suc k) i m = rw (same-row i (omega arith), same-rows k (i + 1) (omega arith))
+
+-- ---- Packing what was read
+
+module _ (e : List ℕ) (inside : placed e .tail .end ≤ length e) where
+  own-numbers : let n = be 2 e 8 in let rows = nameRows 0 e n (10 + 8 * n) in let t = placed e .tail in
+      numbers head e 0
+      ≡ numbersOf (startedIn e) (allFields e n) (every 1 2 n rows) (partsAt e rows) (part e (t .name) (t .«name_length»)) (part e (t .class) (t .«class_length»)) (endingOf t)
+  own-numbers =
+      let n = be 2 e 8 in
+      let rows = nameRows 0 e n (10 + 8 * n) in
+      let c = rows4-columns _ _ _ _ n (columns-long e n) in
+      let at = namesEnd e n (10 + 8 * n) in
+      rw (length-every 1 2 n rows, c .first, c .second, c .third, c .fourth)
+      (numbers-shape e inside
+      ∙ ap (λ l. fieldsThen e n (namesApart (every 1 2 n rows) (partsAt e rows) ++ l))
+      (numbers-tail (λ t. t) e at inside))
+
+  pack-placed : Bytes e → let n = be 2 e 8 in let rows = nameRows 0 e n (10 + 8 * n) in let t = placed e .tail in
+      headBytes (startedIn e) (allFields e n) (every 1 2 n rows) (partsAt e rows) (part e (t .name) (t .«name_length»)) (part e (t .class) (t .«class_length»)) (endingOf t)
+      ≡ part e 0 (t .end)
+  unfolding headBytes
+  pack-placed b =
+      let ends : extent head e 0 ≡ placed e .tail .end = head-ends e ∙ ap (λ h. h .tail .end) (head-is e) in
+      ap (λ xs. pack head xs 0) (sym own-numbers)
+      ∙ pack-numbers head e 0 b (omega arith)
+      ∙ ap (part e 0) (let z : extent head e 0 - 0 ≡ placed e .tail .end = omega arith in z)
+
+  -- and what was read breaks no rule of packing
+  placed-passes : Bytes e → be 2 e 8 ≤ most-fields → be 2 e 0 ≤ most-head-interlace → placed e .tail .version ≡ only-version
+      → fieldsFault (be 2 e 6) (fieldsOf e (placed e)) ≡ 0
+      → let n = be 2 e 8 in let rows = nameRows 0 e n (10 + 8 * n) in let t = placed e .tail in
+      headPackFault (startedIn e) (allFields e n) (every 1 2 n rows) (length (partsAt e rows))
+      (length (part e (t .name) (t .«name_length»))) (length (part e (t .class) (t .«class_length»))) (t .version) ≡ 0
+  placed-passes b few interlace version fields =
+      let n = be 2 e 8 in
+      let at = 10 + 8 * n in
+      let long : length (every 1 2 n (nameRows 0 e n at)) ≡ n = length-every 1 2 n (nameRows 0 e n at) in
+      let c = rows4-columns _ _ _ _ n (columns-long e n) in
+      fault-goes-on _ _ _ _ _ _ _ (rw long few) (rw long (length-rows4 _ _ _ _ n (columns-long e n))) (parts-long n e at (names-inside e inside)) interlace
+      ∙ fault-sound _ _ _ (tail-own e (namesEnd e n at) b inside version) _
+      ∙ rw long
+      (ap (fieldsFault (be 2 e 6)) (sym (same-rows e (allFields e n) n (placed e) (sym (c .first)) (sym (c .second)) (sym (c .third)) (sym (c .fourth)) n 0 (omega arith)))
+      ∙ fields)
+
+-- the first numbers of a head that was read
+abbrev pub startIn : Head → Start
+startIn h = record { interlace = h .interlace; records = h .records; «record_size» = h .«record_size» }
+
+pub pack-own : (e : List ℕ) → headFault e ≡ 0 → Bytes e → let h = headIn e in
+    headBytes (startIn h) (headFields e) (every 1 2 (h .fields) (headNames 0 e)) (partsAt e (headNames 0 e))
+    (part e (h .tail .name) (h .tail .«name_length»)) (part e (h .tail .class) (h .tail .«class_length»)) (endingOf (h .tail))
+    ≡ part e 0 (h .tail .end)
+pack-own e sound b =
+    let inside : placed e .tail .end ≤ length e = rw head-is at (head-passed e sound .inside) in
+    rw (fields-are e, names-are 0 e, head-is e) (pack-placed e inside b)
+
+pub own-passes : (e : List ℕ) → headFault e ≡ 0 → Bytes e → let h = headIn e in
+    headPackFault (startIn h) (headFields e) (every 1 2 (h .fields) (headNames 0 e)) (length (partsAt e (headNames 0 e)))
+    (length (part e (h .tail .name) (h .tail .«name_length»))) (length (part e (h .tail .class) (h .tail .«class_length»))) (h .tail .version) ≡ 0
+own-passes e sound b =
+    let k = head-passed e sound in
+    rw (fields-are e, names-are 0 e, head-is e)
+    (placed-passes e (rw head-is at (k .inside)) b (rw head-is at (k .few)) (rw head-is at (k .interlace)) (rw head-is at (k .version)) (rw head-is at (k .fields)))
+
+-- ---- Reading what was packed
 
 module _ (b : Start) (rows lengths all name class : List ℕ) (x : Ending)
     (rules : PackSound b rows lengths (length all) (length name) (length class) (x .version)) where

@@ -10,7 +10,7 @@ use mathlib.Core.Logic.{inl, inr}
 use lib.ListN.{length, getD, drop, drop-of-length-le}
 use lib.Seq.{drop-cons}
 use lib.Dec.{leb, eqb}
-use borrow.Author.Tests.{eqb-true}
+use borrow.Author.Tests.{eqb-true, leb-true}
 use Rattle.answer.proofs.Tests.{zero?, and-split}
 use Rattle.answer.proofs.Search.{passed}
 use Rattle.records.specs.Types.{widthOf}
@@ -126,7 +126,26 @@ field-sized rs sum field (suc n) i k q l =
     ap-sized : {j l : ℕ} → j ≡ l → Sized rs (field j) → Sized rs (field l)
     ap-sized p x = subst (λ j. Sized rs (field j)) p x
 
+field-typed : (field : ℕ → Numbers) (n i k : ℕ) → typed (fieldsFrom field n i) ≡ true → k < n → 1 ≤ widthOf (field (i + k) .code)
+unfolding typed fieldsFrom
+field-typed field zero i k q l = absurd (omega arith)
+field-typed field (suc n) i k q l =
+    let a = and-split (leb 1 (widthOf (field i .code))) (typed (fieldsFrom field n (i + 1))) q in
+    elim (zero? k) [
+      | inl z ↦ let here : i ≡ i + k = omega arith in subst (λ j. 1 ≤ widthOf (field j .code)) here (leb-true _ _ (a .0))
+      | inr m ↦
+          let there : i + 1 + m .0 ≡ i + k = omega (arith, m .1) in
+          subst (λ j. 1 ≤ widthOf (field j .code)) there (field-typed field n (i + 1) (m .0) (a .1) (omega (arith, m .1)))
+    ]
+
 -- a field of those that break no rule
+pub sound-typed : (rs : ℕ) (field : ℕ → Numbers) (n i : ℕ) → fieldsFault rs (fieldsFrom field n 0) ≡ 0 → i < n → 1 ≤ widthOf (field i .code)
+unfolding fieldsFault
+sound-typed rs field n i z l =
+    let o = passed _ 14 _ z in
+    let t = passed _ 15 _ (o .1) in
+    subst (λ k. 1 ≤ widthOf (field k .code)) (zero-add i) (field-typed field n 0 i (t .0) l)
+
 pub sound-sized : (rs : ℕ) (field : ℕ → Numbers) (n i : ℕ) → fieldsFault rs (fieldsFrom field n 0) ≡ 0 → i < n → Sized rs (field i)
 unfolding fieldsFault
 sound-sized rs field n i z l =

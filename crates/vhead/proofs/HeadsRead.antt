@@ -9,11 +9,11 @@ use lib.Seq.{sets, take-append-seam}
 use lib.Dec.{leb, eqb}
 use borrow.Author.Tests.{leb-true, le-leb, lt-leb, eqb-true, eq-eqb, ne-eqb}
 use Rattle.answer.specs.Refusals.{TOO-LONG, SMALL, RECORD}
-use Rattle.answer.specs.Answer.{Answer, grant, refuse, unless, inRoom}
+use Rattle.answer.specs.Answer.{Answer, grant, refuse, refusal, unless, inRoom}
 use Rattle.answer.specs.Search.{Hit}
 use Rattle.answer.specs.declared.Refusal.{Refusal}
 use Rattle.answer.proofs.Search.{must-holds, must-fails, passed}
-use Rattle.answer.proofs.Answer.{unless-passes, unless-passed, inRoom-enough, inRoom-short, inRoom-passed}
+use Rattle.answer.proofs.Answer.{unless-passes, unless-passed, refusal-is, refusal-number, inRoom-enough, inRoom-short, inRoom-passed}
 use Rattle.answer.proofs.Lent.{refuses}
 use Rattle.wire.specs.Numbers.{part, be}
 use Rattle.wire.specs.Layouts.{extent, read}
@@ -22,7 +22,7 @@ use Rattle.directory.specs.Lookup.{find, findIn}
 use Rattle.directory.specs.Steps.Opens.{Opens}
 use Rattle.directory.proofs.Rules.{opens-kept}
 use Rattle.directory.proofs.Opens.{opened-goes, opened-passed, opened-find, opened-answer, opened-does}
-use Rattle.storage.specs.Elements.{locatedAt, refusalIn, onPlain}
+use Rattle.storage.specs.Elements.{locatedAt, refusalIn, onPlain, offsetIn, startOf}
 use Rattle.storage.specs.declared.element.Located.{Located}
 use Rattle.storage.specs.declared.element.Located.the-variants as located
 use Rattle.records.specs.Readings.{soundIn, recordAt, recordBytes}
@@ -31,7 +31,7 @@ use Rattle.vset.specs.Limits.{only-version}
 use Rattle.vset.specs.Tails.{namesEnd}
 use Rattle.vset.proofs.Tails.{tailIn, names-low, names-split}
 use Rattle.vhead.specs.Limits.{head-tag, most-head-interlace, most-fields}
-use Rattle.vhead.specs.Heads.{head, headIn, fieldsOf, fieldsFault, headFault, headFields, headNames, offsetIn, startOf, headValues, headNumbers, headAt, headWithin, unlessLong, ReadsHead, namedField}
+use Rattle.vhead.specs.Heads.{head, headIn, fieldsOf, fieldsFault, headFault, headFields, headNames, headValues, headNumbers, headAt, headWithin, unlessLong, ReadsHead, namedField}
 use Rattle.vhead.specs.Steps.{HeadHeld, Held}
 use Rattle.vhead.specs.declared.head.Head.{Head}
 use Rattle.vhead.specs.declared.head.Answered.{Answered}
@@ -141,18 +141,18 @@ module _ (s : List ℕ) (found : Hit) (room : ℕ) where
   too-long h = (sym (long-stops 12 s _ h), λ z. omega arith)
 
   module _ (short : length s ≤ most-bytes) (l : Located) (is : l ≡ locatedAt s found) where
-    refused : (n p : ℕ) → headAt s found room ≡ refuse 12 n p → (n ≡ 0 → ⊥) → Finds (Refused (record { number = n; place = p }))
-    refused n p e z = (sym (long-passes 12 s _ short ∙ e), z)
+    refused : (r : Refusal) → headAt s found room ≡ refusal 12 r → (r .number ≡ 0 → ⊥) → Finds (Refused r)
+    refused r e z = (sym (long-passes 12 s _ short ∙ e), z)
 
     pub unlocated : (x : Refusal) → l ≡ located.Refused x → (r : Refusal) → r ≡ refusalIn l → Finds (Refused r)
     unfolding headAt
-    unlocated x e r taken = refused _ _ (reads-refusal 12 s found headFault _ l is x e r taken) (reads-positive s found l is x e r taken)
+    unlocated x e r taken = refused r (reads-refusal 12 s found headFault _ l is x e r taken) (reads-positive s found l is x e r taken)
 
     -- the bytes e of an element
     module _ (p o n : ℕ) (plain : l ≡ located.Plain p o n) (e : List ℕ) (of : e ≡ part s o n) where
       pub broken : (k : ℕ) → k ≡ headFault e → (k ≡ 0 → ⊥) → Finds (Refused (record { number = k; place = p }))
       unfolding headAt
-      broken k q z = refused k p (reads-broken 12 s found headFault _ l is p o n plain e of k q z) z
+      broken k q z = refused _ (reads-broken 12 s found headFault _ l is p o n plain e of k q z) z
 
       module _ (sound : headFault e ≡ 0) (h : Head) (parsed : h ≡ headIn e) where
         goes : headAt s found room ≡ inRoom 12 (leb (h .fields) room) (grant (headValues o h))
@@ -162,7 +162,7 @@ module _ (s : List ℕ) (found : Hit) (room : ℕ) where
             ∙ ap (λ x. inRoom 12 (leb (x .fields) room) (grant (headValues o x))) (sym parsed)
 
         pub small : room < h .fields → Finds (Refused (record { number = SMALL; place = 0 }))
-        small m = refused SMALL 0 (goes ∙ inRoom-short 12 _ _ (lt-leb _ _ m)) (λ z. omega arith)
+        small m = refused (record { number = SMALL; place = 0 }) (goes ∙ inRoom-short 12 _ _ (lt-leb _ _ m)) (λ z. omega arith)
 
         pub finds : h .fields ≤ room → Finds (Values o (length e) h)
         finds m =
@@ -205,7 +205,8 @@ module _ (s : List ℕ) (found : Hit) (fields names : List ℕ) (room : ℕ) (ro
     pub left : (x : Refusal) → r ≡ Refused x → Held s found room r → ReadsHead listing s found fields fields names names (headNumbers r)
     left x e held =
         let positive : Held s found room (Refused x) = rw e at held in
-        rw e (refuses _ _ fields 12 _ _ (same ∙ ap headNumbers e) positive, refuses _ _ names 12 _ _ (same ∙ ap headNumbers e) positive)
+        let is = same ∙ ap headNumbers e ∙ refusal-is 12 x positive in
+        rw e (refuses _ _ fields 12 x is positive, refuses _ _ names 12 x is positive)
 
     module _ (start size : ℕ) (h : Head) (is : r ≡ Values start size h) (held : HeadHeld s found room start size h) (e : List ℕ) (of : e ≡ part s start size) where
       pub listed : (after also : List ℕ) → after ≡ sets fields 0 (headFields e) → also ≡ sets names 0 (headNames start e)
@@ -244,7 +245,7 @@ names-inside s found room start h q = go (soundIn headFault s (locatedAt s found
     answer at e = inRoom 12 (leb (headIn e .fields) room) (grant (headValues at (headIn e)))
 
     go : (l : Located) → soundIn headFault s (locatedAt s found) ≡ l → (start + h .tail .name ≤ length s) × (start + h .tail .class ≤ length s)
-    go (located.Refused x) is = absurd (sound-positive headFault s found x is (ap (λ a. a .number) (sym (ap (onPlain 12 (λ p o n. answer o (part s o n))) is) ∙ q)))
+    go (located.Refused x) is = absurd (sound-positive headFault s found x is (sym (refusal-number 12 x) ∙ ap (λ a. a .number) (sym (ap (onPlain 12 (λ p o n. answer o (part s o n))) is) ∙ q)))
     go (located.Plain p o n) is =
         let e = part s o n in
         let granted : answer o e ≡ grant (headValues start h) = sym (ap (onPlain 12 (λ p o n. answer o (part s o n))) is) ∙ q in

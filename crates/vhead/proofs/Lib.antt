@@ -5,3 +5,5 @@ pub mod HeadsPacked
 pub mod HeadsNamed
 pub mod HeadsBack
 pub mod HeadClaims
+pub mod HeadRules
+pub mod HeadRuleClaims

@@ -5,16 +5,14 @@ use mathlib.Core.Bool.{Bool, true, _&&_}
 use lib.ListN.{length, getD, take, drop}
 use lib.Dec.{leb, eqb}
 use Rattle.wire.specs.Numbers.{be}
-use Rattle.answer.specs.Answer.{Answer, grant, refuse, unless, inRoom}
+use Rattle.answer.specs.Answer.{Answer, grant, refusal, unless, inRoom}
 use Rattle.answer.specs.Lent.{Does}
 use Rattle.answer.specs.Search.{must, Hit}
 use Rattle.answer.specs.Refusals.{TOO-LONG, RECORD, TYPE}
 use Rattle.directory.specs.Limits.{most-bytes}
 use Rattle.directory.specs.Opening.{opened}
 use Rattle.directory.specs.Lookup.{find}
-use Rattle.storage.specs.Elements.{locatedAt}
-use Rattle.storage.specs.declared.element.Located.{Located}
-use Rattle.storage.specs.declared.element.Located.the-variants as located
+use Rattle.storage.specs.Elements.{startOf}
 use Rattle.wire.specs.Layouts.{Layout, number, run, read, numbersAt, pack}
 use Rattle.records.specs.Readings.{recordAt, recordBytes, within}
 use Rattle.vset.specs.Limits.{only-version}
@@ -135,20 +133,12 @@ nameRows start e (suc n) at = (start + (at + 2)) ∷ be 2 e at ∷ nameRows star
 unfoldable pub headNames : ℕ → List ℕ → List ℕ
 headNames start e = let h = headIn e in nameRows start e (h .fields) (h .names)
 
--- where the bytes of an element start in the image; 0 where it is not located
-abbrev pub offsetIn : Located → ℕ
-offsetIn (located.Plain p offset size) = offset
-offsetIn (located.Refused x) = 0
-
-abbrev pub startOf : List ℕ → Hit → ℕ
-startOf s found = offsetIn (locatedAt s found)
-
 abbrev pub headValues : ℕ → Head → List ℕ
 headValues start h = h .interlace ∷ h .records ∷ h .«record_size» ∷ h .fields ∷ tailValues start (h .tail)
 
 abbrev pub headNumbers : Answered → Answer
 headNumbers (Values start size h) = grant (headValues start h)
-headNumbers (Refused r) = refuse 12 (r .number) (r .place)
+headNumbers (Refused r) = refusal 12 r
 
 -- where there is room for so many fields
 unfoldable pub headAt : List ℕ → Hit → ℕ → Answer

@@ -1,3 +1,4 @@
 pub mod Limits
 pub mod Heads
+pub mod HeadRules
 pub mod Steps

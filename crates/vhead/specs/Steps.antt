@@ -14,7 +14,8 @@ use Rattle.records.specs.Readings.{recordBytes}
 use Rattle.vhead.specs.Limits.{most-fields}
 use Rattle.vset.specs.Columns.{every}
 use Rattle.records.specs.Types.{widthOf}
-use Rattle.vhead.specs.Heads.{headIn, startOf}
+use Rattle.storage.specs.Elements.{startOf}
+use Rattle.vhead.specs.Heads.{headIn}
 use Rattle.vhead.specs.declared.field.Numbers.{Numbers}
 use Rattle.vhead.specs.declared.head.Start.{Start}
 use Rattle.vhead.specs.declared.head.Judged.{Judged}

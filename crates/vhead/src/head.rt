@@ -322,10 +322,12 @@ pub fn read_in(
     fields: &mut [u16],
     names: &mut [u32],
 ) -> Answered
-    ensures { λ r. ⌜ (let s = now (image .entry) in let found = findIn s blocks Limits.head-tag reference in
+    ensures answer { λ r. ⌜ (let s = now (image .entry) in let found = findIn s blocks Limits.head-tag reference in
         let room = min (length (now (fields .entry)) / 4) (length (now (names .entry)) / 2) in
         Heads.ReadsHead (Heads.unlessLong 12 s (Heads.headAt s found room)) s found
         (now (fields .entry)) (now (fields .exit)) (now (names .entry)) (now (names .exit)) (Heads.headNumbers r)) ⌝ }
+    ensures held { λ r. ⌜ (let s = now (image .entry) in Steps.Held s (findIn s blocks Limits.head-tag reference)
+        (min (length (now (fields .entry)) / 4) (length (now (names .entry)) / 2)) r) ⌝ }
 {
     let room = wire::least(fields.len() / 4, names.len() / 2);
     let found = find_in(image, blocks, reference, room);
@@ -340,9 +342,11 @@ pub fn read_in(
 
 // The same in an image that is opened first.
 pub fn read(image: &[u8], reference: u16, fields: &mut [u16], names: &mut [u32]) -> Answered
-    ensures { λ r. ⌜ (let s = now (image .entry) in
+    ensures answer { λ r. ⌜ (let s = now (image .entry) in
         Heads.ReadsHead (Heads.headOf s reference (length (now (fields .entry))) (length (now (names .entry)))) s (find s Limits.head-tag reference)
         (now (fields .entry)) (now (fields .exit)) (now (names .entry)) (now (names .exit)) (Heads.headNumbers r)) ⌝ }
+    ensures held { λ r. ⌜ (let s = now (image .entry) in Steps.Held s (find s Limits.head-tag reference)
+        (min (length (now (fields .entry)) / 4) (length (now (names .entry)) / 2)) r) ⌝ }
 {
     let opened = directory::open(image);
     let Opened::Accepted(counts) = opened else {

@@ -10,7 +10,7 @@ use lib.Seq.{take-append-seam, drop-append-seam}
 use lib.Dec.{leb, eqb}
 use borrow.Author.Tests.{leb-true, leb-false, le-leb, lt-leb, eqb-true, eq-eqb, ne-eqb}
 use Rattle.wire.specs.Numbers.{be, bytes, put, part, Bytes, Reads}
-use Rattle.wire.proofs.Numbers.{length-bytes, put-put, put-past, length-part}
+use Rattle.wire.proofs.Numbers.{be-small, length-bytes, put-put, put-past, length-part}
 use Rattle.directory.specs.Limits.{most-bytes}
 use Rattle.directory.specs.Slots.{sizeAt, contentAt}
 use Rattle.answer.proofs.Tests.{test, same?}
@@ -279,9 +279,12 @@ module _ (name class version : ℕ) where
       let d = passed (eqb version only-version) 14 rest (b .1) in
       (record { name-short = leb-true _ _ (a .0); class-short = leb-true _ _ (b .0); version-right = eqb-true _ _ (d .0) }, d .1)
 
+  pub fault-sound : Sound → (rest : ℕ) → tailPackFault name class version rest ≡ rest
+  fault-sound s rest = fault-none (s .name-short) (s .class-short) rest (s .version-right)
+
   -- the rules of the tail alone tell whether the rules after them are reached
   pub fault-goes : tailPackFault name class version 0 ≡ 0 → (rest : ℕ) → tailPackFault name class version rest ≡ rest
-  fault-goes e rest = let s = fault-passed 0 e .0 in fault-none (s .name-short) (s .class-short) rest (s .version-right)
+  fault-goes e rest = fault-sound (fault-passed 0 e .0) rest
 
   pub fault-stops : (tailPackFault name class version 0 ≡ 0 → ⊥) → (rest : ℕ) → tailPackFault name class version rest ≡ tailPackFault name class version 0
   fault-stops z rest =
@@ -295,6 +298,19 @@ module _ (name class version : ℕ) where
           ]
         ]
       ]
+
+-- name and class of a tail that was read are no longer than their lengths allow
+pub tail-own : (e : List ℕ) (at : ℕ) → Bytes e → tailIn e at .end ≤ length e → tailIn e at .version ≡ only-version → let t = tailIn e at in
+    Sound (length (part e (t .name) (t .«name_length»))) (length (part e (t .class) (t .«class_length»))) (t .version)
+unfolding read
+tail-own e at b h version =
+    let n = be 2 e at in
+    let k = be 2 e (at + 2 + 1 * n) in
+    record {
+      name-short = omega (arith, length-part e (at + 2) n (omega arith), be-small 2 e at b);
+      class-short = omega (arith, length-part e (at + 2 + 1 * n + 2) k (omega arith), be-small 2 e (at + 2 + 1 * n) b);
+      version-right = version;
+    }
 
 -- ---- Places that an answer tells of lie inside the image
 

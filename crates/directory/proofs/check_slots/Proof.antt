@@ -16,6 +16,7 @@ use Rattle.directory.specs.Steps.Gaps.{Between}
 use Rattle.directory.specs.declared.cursor.Cursor.{Cursor}
 use Rattle.directory.specs.declared.gap.Gap.{Gap}
 use Rattle.directory.specs.declared.highest.Highest.{Highest}
+use Rattle.answer.proofs.Answer.{refusal-is}
 use Rattle.answer.proofs.Search
 use Rattle.directory.proofs.Cursors
 use Rattle.directory.proofs.Gaps
@@ -203,7 +204,8 @@ returns-2 : tie.Need-returns-2 Inv-loop μ-loop Inv-slots μ-slots
 returns-2 c =
     let e = c .before .before .before .before in
     let is = c .before .before .before .read16 .ensures .is in
-    sym (Opening.element-bad _ _ _ _ _ _ (e .before .slots .inv .going) (more e) (λ h. c .before .before .if2 .taken (is ∙ h)) _ (c .if3 .taken) (c .before .element-fault .ensures .0))
+    refusal-is 3 _ (c .if3 .taken)
+    ∙ sym (Opening.element-bad _ _ _ _ _ _ (e .before .slots .inv .going) (more e) (λ h. c .before .before .if2 .taken (is ∙ h)) _ (c .if3 .taken) (c .before .element-fault .ensures .0))
 
 returns-3 : tie.Need-returns-3 Inv-loop μ-loop Inv-slots μ-slots
 returns-3 c =

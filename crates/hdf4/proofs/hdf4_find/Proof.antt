@@ -1,6 +1,8 @@
 -- `hdf4::hdf4_find` meets its contract. Assumes nothing.
 use mathlib.Core.Path.{sym, ap, _∙_}
 use Rattle.directory.specs.Lookup.{foundNumbers}
+use Rattle.answer.proofs.Answer.{told}
+use Rattle.hdf4.proofs.Proper
 use borrow.Author.Needs.{needs}
 use Rattle.hdf4.proofs.hdf4_find.Statement.{statement}
 use Rattle.hdf4.proofs.hdf4_find.Tie as tie
@@ -18,7 +20,7 @@ returns : tie.Need-returns
 returns c = ap foundNumbers (sym (c .before .found .given .1)) ∙ c .before .before .before .find .ensures
 
 returns-2 : tie.Need-returns-2
-returns-2 c = ap foundNumbers (sym (c .before .found2 .given .1)) ∙ c .before .before .before .find .ensures
+returns-2 c = told 1 (c .before .found2 .given .0 .0) _ (Proper.find-proper _ _ _) (ap foundNumbers (sym (c .before .found2 .given .1)) ∙ c .before .before .before .find .ensures)
 
 pub hdf4-find-spec : {M : Type 1} → statement M
 hdf4-find-spec =

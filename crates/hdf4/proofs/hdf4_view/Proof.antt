@@ -1,6 +1,8 @@
 -- `hdf4::hdf4_view` meets its contract. Assumes nothing.
 use mathlib.Core.Path.{sym, ap, _∙_}
 use Rattle.storage.specs.Views.{viewedNumbers}
+use Rattle.answer.proofs.Answer.{told}
+use Rattle.hdf4.proofs.Proper
 use borrow.Author.Needs.{needs}
 use Rattle.hdf4.proofs.hdf4_view.Statement.{statement}
 use Rattle.hdf4.proofs.hdf4_view.Tie as tie
@@ -18,7 +20,7 @@ returns : tie.Need-returns
 returns c = ap viewedNumbers (sym (c .before .viewed .given .1)) ∙ c .before .before .before .numbers .ensures
 
 returns-2 : tie.Need-returns-2
-returns-2 c = ap viewedNumbers (sym (c .before .viewed2 .given .1)) ∙ c .before .before .before .numbers .ensures
+returns-2 c = told 2 (c .before .viewed2 .given .0 .0) _ (Proper.view-proper _ _ _) (ap viewedNumbers (sym (c .before .viewed2 .given .1)) ∙ c .before .before .before .numbers .ensures)
 
 pub hdf4-view-spec : {M : Type 1} → statement M
 hdf4-view-spec =

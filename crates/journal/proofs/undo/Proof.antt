@@ -50,7 +50,7 @@ same-length : tie.Need-same-length
 same-length c = search needs
 
 returns : tie.Need-returns
-returns c = rw (c .refusal-of .ensures) (Restores.undo-closed _ _ _ (Buffers.closed-in _ _ _ (c .before .before .before .open-in .ensures) _ (c .before .enum-told .given .1)))
+returns c = Restores.undo-closed _ _ _ (Buffers.closed-in _ _ _ (c .before .before .before .open-in .ensures) _ (c .before .enum-told .given .1)) _ (c .refusal-of .ensures)
 
 slice-reshare-prefix-image : tie.Need-slice-reshare-prefix-image
 slice-reshare-prefix-image c = opened-at (c .before) .0

@@ -1,5 +1,6 @@
 -- `hdf4::record_calls::hdf4_pack_array` meets its contract. Assumes nothing.
 use Rattle.answer.proofs.Lent
+use Rattle.hdf4.proofs.Proper
 use borrow.Author.Needs.{needs}
 use Rattle.hdf4.proofs.record_calls.hdf4_pack_array.Statement.{statement}
 use Rattle.hdf4.proofs.record_calls.hdf4_pack_array.Tie as tie
@@ -14,7 +15,7 @@ same-length : tie.Need-same-length
 same-length c = search needs
 
 returns : tie.Need-returns
-returns c = Lent.restated (c .pack-answer .ensures) (c .before .before .before .pack .ensures)
+returns c = let d = c .before .before .before .pack .ensures in Lent.retold d (c .pack-answer .ensures _ (Proper.pack-proper _ _ _) (d .answers))
 
 pub hdf4-pack-array-spec : {M : Type 1} → statement M
 hdf4-pack-array-spec = tie.close (tie.spec pack-requires pack-answer-requires same-length returns)

@@ -1,6 +1,8 @@
 -- `hdf4::record_calls::hdf4_read_dimension` meets its contract. Assumes nothing.
 use mathlib.Core.Path.{sym, ap, _∙_}
 use Rattle.records.specs.Dimensions.{dimensionNumbers}
+use Rattle.answer.proofs.Answer.{told}
+use Rattle.hdf4.proofs.Proper
 use borrow.Author.Needs.{needs}
 use Rattle.hdf4.proofs.record_calls.hdf4_read_dimension.Statement.{statement}
 use Rattle.hdf4.proofs.record_calls.hdf4_read_dimension.Tie as tie
@@ -42,7 +44,7 @@ returns : tie.Need-returns
 returns c = ap dimensionNumbers (sym (c .before .before .before .before .before .before .before .before .before .answered .given .1)) ∙ c .before .before .before .before .before .before .before .before .before .before .before .read .ensures
 
 returns-2 : tie.Need-returns-2
-returns-2 c = ap dimensionNumbers (sym (c .before .answered2 .given .1)) ∙ c .before .before .before .read .ensures
+returns-2 c = told 8 (c .before .answered2 .given .0 .0) _ (Proper.dimension-proper _ _ _) (ap dimensionNumbers (sym (c .before .answered2 .given .1)) ∙ c .before .before .before .read .ensures)
 
 pub hdf4-read-dimension-spec : {M : Type 1} → statement M
 hdf4-read-dimension-spec =

@@ -1,6 +1,8 @@
 -- `hdf4::record_calls::hdf4_read_number_type` meets its contract. Assumes nothing.
 use mathlib.Core.Path.{sym, ap, _∙_}
 use Rattle.records.specs.NumberTypes.{numberTypeNumbers}
+use Rattle.answer.proofs.Answer.{told}
+use Rattle.hdf4.proofs.Proper
 use borrow.Author.Needs.{needs}
 use Rattle.hdf4.proofs.record_calls.hdf4_read_number_type.Statement.{statement}
 use Rattle.hdf4.proofs.record_calls.hdf4_read_number_type.Tie as tie
@@ -30,7 +32,7 @@ returns : tie.Need-returns
 returns c = ap numberTypeNumbers (sym (c .before .before .before .before .before .answered .given .1)) ∙ c .before .before .before .before .before .before .before .read .ensures
 
 returns-2 : tie.Need-returns-2
-returns-2 c = ap numberTypeNumbers (sym (c .before .answered2 .given .1)) ∙ c .before .before .before .read .ensures
+returns-2 c = told 4 (c .before .answered2 .given .0 .0) _ (Proper.number-type-proper _ _) (ap numberTypeNumbers (sym (c .before .answered2 .given .1)) ∙ c .before .before .before .read .ensures)
 
 pub hdf4-read-number-type-spec : {M : Type 1} → statement M
 hdf4-read-number-type-spec =

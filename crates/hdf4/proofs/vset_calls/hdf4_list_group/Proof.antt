@@ -1,7 +1,9 @@
 -- `hdf4::vset_calls::hdf4_list_group` meets its contract. Assumes nothing.
-use mathlib.Core.Path.{sym, ap}
+use mathlib.Core.Path.{sym, ap, _∙_}
 use Rattle.vgroup.specs.Listings.{pairsNumbers}
 use Rattle.answer.proofs.Lent
+use Rattle.answer.proofs.Answer.{told}
+use Rattle.hdf4.proofs.Proper
 use borrow.Author.Needs.{needs}
 use Rattle.hdf4.proofs.vset_calls.hdf4_list_group.Statement.{statement}
 use Rattle.hdf4.proofs.vset_calls.hdf4_list_group.Tie as tie
@@ -25,7 +27,7 @@ same-length-2 : tie.Need-same-length-2
 same-length-2 c = search needs
 
 returns-2 : tie.Need-returns-2
-returns-2 c = Lent.restated (ap pairsNumbers (sym (c .before .listed2 .given .1))) (c .before .before .before .before .before .list .ensures)
+returns-2 c = let d = c .before .before .before .before .before .list .ensures in Lent.retold d (told 1 (c .before .listed2 .given .0 .0) _ (Proper.listing-proper _ _ _) (ap pairsNumbers (sym (c .before .listed2 .given .1)) ∙ d .answers))
 
 pub hdf4-list-group-spec : {M : Type 1} → statement M
 hdf4-list-group-spec =

@@ -3,6 +3,8 @@ use mathlib.Core.Path.{sym, ap, subst, _∙_}
 use Rattle.vdata.specs.Values.{valueNumbers}
 use Rattle.hdf4.specs.VsetAnswers.{HasBits}
 use Rattle.hdf4.proofs.Bits
+use Rattle.answer.proofs.Answer.{told}
+use Rattle.hdf4.proofs.Proper
 use borrow.Author.Needs.{needs}
 use Rattle.hdf4.proofs.vset_calls.hdf4_read_value.Statement.{statement}
 use Rattle.hdf4.proofs.vset_calls.hdf4_read_value.Tie as tie
@@ -23,7 +25,7 @@ returns : tie.Need-returns
 returns c = c .value-answer .ensures ∙ ap valueNumbers (sym (c .before .before .answered .given .1)) ∙ c .before .before .before .before .read .ensures .answers
 
 returns-2 : tie.Need-returns-2
-returns-2 c = ap valueNumbers (sym (c .before .answered2 .given .1)) ∙ c .before .before .before .read .ensures .answers
+returns-2 c = told 2 (c .before .answered2 .given .0 .0) _ (Proper.value-proper _ _ _ _ _) (ap valueNumbers (sym (c .before .answered2 .given .1)) ∙ c .before .before .before .read .ensures .answers)
 
 pub hdf4-read-value-spec : {M : Type 1} → statement M
 hdf4-read-value-spec =

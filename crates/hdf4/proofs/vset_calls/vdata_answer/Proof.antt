@@ -1,6 +1,9 @@
 -- `hdf4::vset_calls::vdata_answer` meets its contract. Assumes nothing.
 use native.Mathlib.Omega.{arith}
-use mathlib.Core.Path.{sym, ap}
+use mathlib.Core.Path.{sym, ap, _∙_}
+use Rattle.answer.proofs.Answer.{refusal-is}
+use Rattle.vhead.specs.declared.head.Answered.the-variants.{Refused}
+use Rattle.hdf4.specs.VsetAnswers.{NamesFit}
 use borrow.Author.Needs.{needs}
 use Rattle.vhead.specs.Heads.{headNumbers}
 use Rattle.hdf4.proofs.Tables
@@ -23,7 +26,9 @@ returns : tie.Need-returns
 returns c = ap headNumbers (sym (c .before .before .before .found .given .1))
 
 returns-2 : tie.Need-returns-2
-returns-2 c = ap headNumbers (sym (c .before .found2 .given .1))
+returns-2 c =
+    let fit : NamesFit (Refused (c .before .found2 .given .0 .0)) = rw (c .before .found2 .given .1) at (c .before .before .before .pre) in
+    sym (refusal-is 12 _ fit) ∙ ap headNumbers (sym (c .before .found2 .given .1))
 
 pub vdata-answer-spec : {M : Type 1} → statement M
 vdata-answer-spec = tie.close (tie.spec enum-known-found add-t10 add-t13 enum-known-found-2 returns returns-2)

@@ -25,7 +25,7 @@ refusal-of-requires c κs = search needs
 
 returns : tie.Need-returns
 unfolding arrayAt
-returns c = Arrays.leaves-refused _ _ _ _ _ _ (Readings.reads-refusal _ _ _ _ _ _ (c .before .before .before .locate .ensures) _ (c .before .enum-told .given .1) _ (c .refusal-of .ensures)) (Readings.reads-positive _ _ _ (c .before .before .before .locate .ensures) _ (c .before .enum-told .given .1) _ (c .refusal-of .ensures))
+returns c = Arrays.leaves-refused _ _ _ _ _ (Readings.reads-refusal _ _ _ _ _ _ (c .before .before .before .locate .ensures) _ (c .before .enum-told .given .1) _ (c .refusal-of .ensures)) (Readings.reads-positive _ _ _ (c .before .before .before .locate .ensures) _ (c .before .enum-told .given .1) _ (c .refusal-of .ensures))
 
 part-requires : tie.Need-part-requires
 part-requires c κs = search needs
@@ -35,7 +35,7 @@ fault-requires c κs = search needs
 
 returns-2 : tie.Need-returns-2
 unfolding arrayAt
-returns-2 c = Arrays.leaves-refused _ _ _ _ _ _ (Readings.reads-broken _ _ _ _ _ _ (c .before .before .before .before .before .before .locate .ensures) _ _ _ (c .before .before .before .before .located .given .1) _ (c .before .before .part .ensures) _ (c .before .fault .ensures) (c .if1 .taken)) (c .if1 .taken)
+returns-2 c = Arrays.leaves-refused _ _ _ _ _ (Readings.reads-broken _ _ _ _ _ _ (c .before .before .before .before .before .before .locate .ensures) _ _ _ (c .before .before .before .before .located .given .1) _ (c .before .before .part .ensures) _ (c .before .fault .ensures) (c .if1 .taken)) (c .if1 .taken)
 
 parse-requires : tie.Need-parse-requires
 parse-requires c κs = search needs

@@ -22,7 +22,7 @@ refusal-of-requires c κs = search needs
 
 returns : tie.Need-returns
 unfolding chooseOf
-returns c = rw (c .refusal-of .ensures) (sym (Opens.refused-is _ _ (c .before .before .before .«open» .ensures) 3 _ _ (c .before .enum-told .given .1)))
+returns c = sym (Opens.refused-is _ _ (c .before .before .before .«open» .ensures) 3 _ _ (c .before .enum-told .given .1) _ (c .refusal-of .ensures))
 
 open-requires-2 : tie.Need-open-requires-2
 open-requires-2 c κs = search needs
@@ -40,7 +40,7 @@ returns-2 : tie.Need-returns-2
 unfolding chooseOf
 returns-2 c =
     let o = Opens.accepted-with _ _ (c .before .before .before .before .before .before .before .«open» .ensures) _ (c .before .before .before .before .before .opened .given .1) in
-    rw (c .refusal-of2 .ensures) (sym (Opens.opened-goes 3 _ _ (o .sound) ∙ Opens.refused-is _ _ (c .before .before .before .open2 .ensures) 3 _ _ (c .before .enum-told2 .given .1)))
+    sym (Opens.opened-goes 3 _ _ (o .sound) ∙ Opens.refused-is _ _ (c .before .before .before .open2 .ensures) 3 _ _ (c .before .enum-told2 .given .1) _ (c .refusal-of2 .ensures))
 
 find-requires : tie.Need-find-requires
 find-requires c κs = search needs

@@ -36,7 +36,7 @@ returns-2 c = c .part2 .ensures ∙ sym (Choices.bytes-fallback _ _ _ _ _ (sym (
 
 returns-3 : tie.Need-returns-3
 unfolding part
-returns-3 c = c .part3 .ensures ∙ sym (Choices.bytes-neither _ _ _ _ _ (sym (c .before .before .before .numbers .ensures) ∙ ap chosenNumbers (c .before .enum-told .given .1)))
+returns-3 c = c .part3 .ensures ∙ sym (Choices.bytes-neither _ _ _ (c .before .enum-told .given .0 .0) (sym (c .before .before .before .numbers .ensures) ∙ ap chosenNumbers (c .before .enum-told .given .1)))
 
 pub part-spec : {M : Type 1} → statement M
 part-spec =

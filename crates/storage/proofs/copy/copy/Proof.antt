@@ -70,7 +70,7 @@ write-bytes-requires : tie.Need-write-bytes-requires
 write-bytes-requires c κs = search needs
 
 returns-3 : tie.Need-returns-3
-returns-3 c = Copies.copied _ _ _ (opens (c .before .before .before) .sound) _ (found (c .before .before) ∙ c .enum-told2 .given .1) _ _ _ (Lent.refuses _ _ _ 1 11 0 refl (λ z. omega arith))
+returns-3 c = Copies.copied _ _ _ (opens (c .before .before .before) .sound) _ (found (c .before .before) ∙ c .enum-told2 .given .1) _ _ _ (Lent.refuses _ _ _ 1 (record { number = 11; place = 0 }) refl (λ z. omega arith))
 
 same-length : tie.Need-same-length
 same-length c = search needs

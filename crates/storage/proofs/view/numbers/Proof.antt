@@ -23,7 +23,7 @@ refusal-of-requires c κs = search needs
 
 returns : tie.Need-returns
 unfolding viewOf
-returns c = rw (c .refusal-of .ensures) (sym (Opens.refused-is _ _ (c .before .before .before .«open» .ensures) 2 _ _ (c .before .enum-told .given .1)))
+returns c = sym (Opens.refused-is _ _ (c .before .before .before .«open» .ensures) 2 _ _ (c .before .enum-told .given .1) _ (c .refusal-of .ensures))
 
 locate-requires : tie.Need-locate-requires
 locate-requires c κs = search needs

@@ -27,7 +27,7 @@ returns c = c .part .ensures ∙ sym (Views.bytes-granted _ _ _ _ (sym (c .befor
 
 returns-2 : tie.Need-returns-2
 unfolding part
-returns-2 c = c .part2 .ensures ∙ sym (Views.bytes-refused _ _ _ _ (sym (c .before .before .before .numbers .ensures) ∙ ap viewedNumbers (c .before .enum-told .given .1)))
+returns-2 c = c .part2 .ensures ∙ sym (Views.bytes-refused _ _ (c .before .enum-told .given .0 .0) (sym (c .before .before .before .numbers .ensures) ∙ ap viewedNumbers (c .before .enum-told .given .1)))
 
 pub part-spec : {M : Type 1} → statement M
 part-spec =

@@ -20,7 +20,7 @@ refusal-of-requires c κs = search needs
 
 returns : tie.Need-returns
 unfolding valueOf
-returns c = rw (c .refusal-of .ensures) (Values.gives-refused _ _ _ (Opens.refused-is _ _ (c .before .before .before .«open» .ensures) 2 _ _ (c .before .enum-told .given .1)))
+returns c = Values.gives-refused _ _ _ (Opens.refused-is _ _ (c .before .before .before .«open» .ensures) 2 _ _ (c .before .enum-told .given .1) _ (c .refusal-of .ensures))
 
 read-in-requires : tie.Need-read-in-requires
 read-in-requires c κs = search needs

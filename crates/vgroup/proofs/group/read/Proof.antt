@@ -1,6 +1,7 @@
 -- `vgroup::group::read` meets its contract. Assumes nothing.
 use Prim.Native.Nat.{ℕ}
 use mathlib.Core.List.{List}
+use mathlib.Core.Path.{sym, ap, subst, _∙_}
 use lib.ListN.{length}
 use Rattle.answer.specs.Answer.{Answer}
 use Rattle.answer.specs.Search.{Hit}
@@ -8,6 +9,7 @@ use Rattle.directory.proofs.Opens
 use Rattle.records.specs.Readings.{recordBytes}
 use Rattle.vgroup.specs.Limits.{group-tag}
 use Rattle.vgroup.specs.Groups.{groupMembers, groupAt, groupOf}
+use Rattle.vgroup.specs.Steps.{Held}
 use borrow.Author.Needs.{needs}
 use Rattle.vgroup.proofs.group.read.Statement.{statement}
 use Rattle.vgroup.proofs.group.read.Tie as tie
@@ -26,7 +28,11 @@ refusal-of-requires c κs = search needs
 
 returns : tie.Need-returns
 unfolding groupOf
-returns c = Opens.unopened-does _ _ (c .before .before .before .«open» .ensures) 9 _ _ _ _ (c .before .enum-told .given .1) _ (c .refusal-of .ensures)
+returns c =
+    let o = c .before .before .before .«open» .ensures in
+    let told = c .before .enum-told .given .1 in
+    let taken = c .refusal-of .ensures in
+    (Opens.unopened-does _ _ o 9 _ _ _ _ told _ taken, λ z. Opens.refused-positive _ _ o _ told (sym (ap (λ r. r .number) taken) ∙ z))
 
 read-in-requires : tie.Need-read-in-requires
 read-in-requires c κs = search needs
@@ -41,7 +47,8 @@ returns-2 c =
     let o = Opens.accepted-with _ _ (c .before .before .before .before .before .before .before .«open» .ensures) _ (c .before .before .before .before .before .opened .given .1) in
     let answer : Hit → Answer = λ h. groupAt (a .image .now) h (length (a .members .now)) in
     let members : Hit → List ℕ = λ h. groupMembers (recordBytes (a .image .now) h) in
-    Opens.opened-does 9 _ _ group-tag (a .reference) o answer members _ _ _ (c .before .before .read-in .ensures)
+    let r = c .before .before .read-in in
+    (Opens.opened-does 9 _ _ group-tag (a .reference) o answer members _ _ _ (r .ensures .0), subst (λ h. Held (a .image .now) h (r .result)) (Opens.opened-find _ _ group-tag (a .reference) o) (r .ensures .1))
 
 pub read-spec : {M : Type 1} → statement M
 read-spec =

@@ -1,5 +1,7 @@
 -- `vgroup::group::read_in` meets its contract. Assumes nothing.
+use native.Mathlib.Nat.{suc-ne-zero}
 use native.Mathlib.Omega.{arith}
+use mathlib.Core.List.{[]}
 use mathlib.Core.Path.{_≡_, sym, ap, _∙_}
 use Rattle.records.proofs.Readings
 use Rattle.storage.specs.Elements.{refusalIn}
@@ -38,7 +40,7 @@ mul-if1 : tie.Need-mul-if1
 mul-if1 c = omega (arith, Groups.group-room _ (sound (c .before .before)) _ (c .before .parse .ensures))
 
 returns-2 : tie.Need-returns-2
-returns-2 c = Groups.small _ _ _ _ _ _ (sym (c .before .before .before .before .before .before .before .find .ensures) ∙ c .before .before .before .before .before .located .given .1) _ (c .before .before .before .part .ensures) _ (c .before .before .parse .ensures) (c .if1 .taken)
+returns-2 c = (Groups.small _ _ _ _ _ _ (sym (c .before .before .before .before .before .before .before .find .ensures) ∙ c .before .before .before .before .before .located .given .1) _ (c .before .before .before .part .ensures) _ (c .before .before .parse .ensures) (c .if1 .taken), suc-ne-zero 13)
 
 put-members-requires : tie.Need-put-members-requires
 put-members-requires c κs = (c .before .if1 .left, Groups.group-room _ (sound (c .before .before .before .before)) _ (c .before .before .before .parse .ensures))
@@ -47,7 +49,11 @@ same-length : tie.Need-same-length
 same-length c = search needs
 
 returns-3 : tie.Need-returns-3
-returns-3 c = Groups.listed _ _ _ _ _ _ (sym (c .before .before .before .before .before .before .before .before .before .before .before .find .ensures) ∙ c .before .before .before .before .before .before .before .before .before .located .given .1) _ (c .before .before .before .before .before .before .before .part .ensures) _ (c .before .before .before .before .before .before .parse .ensures) (c .before .before .before .before .if1 .left) _ (c .before .before .put-members .ensures)
+returns-3 c =
+    let sound-is = sym (c .before .before .before .before .before .before .before .before .before .before .before .find .ensures) ∙ c .before .before .before .before .before .before .before .before .before .located .given .1 in
+    let of = c .before .before .before .before .before .before .before .part .ensures in
+    let parsed = c .before .before .before .before .before .before .parse .ensures in
+    (Groups.listed _ _ _ _ _ _ sound-is _ of _ parsed (c .before .before .before .before .if1 .left) _ (c .before .before .put-members .ensures), Groups.held _ _ [] _ _ _ sound-is _ of _ parsed)
 
 pub read-in-spec : {M : Type 1} → statement M
 read-in-spec =

@@ -1,7 +1,8 @@
 -- `vgroup::listing::list` meets its contract. Assumes nothing.
 use Prim.Native.Nat.{ℕ}
 use native.Mathlib.Omega.{arith}
-use mathlib.Core.Path.{_≡_}
+use mathlib.Core.Path.{_≡_, ap, _∙_}
+use Rattle.storage.specs.Elements.{refusalIn}
 use mathlib.Core.List.{List}
 use lib.ListN.{length}
 use Rattle.answer.specs.Answer.{Answer}
@@ -63,7 +64,8 @@ refusal-of-requires-2 : tie.Need-refusal-of-requires-2
 refusal-of-requires-2 c κs = search needs
 
 returns-2 : tie.Need-returns-2
-returns-2 c = rw (c .refusal-of2 .ensures, c .before .enum-told2 .given .1) (goes (c .before .before .before .before) _ _ (ListingsAnswered.unnamed _ _ _ _ (ListingsFound.group-found _ _ _ (opens (c .before .before .before .before)) _ (c .before .before .before .find .ensures) _ (c .before .enum-told2 .given .1))))
+returns-2 c =
+    goes (c .before .before .before .before) _ _ (ListingsAnswered.unnamed _ _ _ _ (ListingsFound.group-found _ _ _ (opens (c .before .before .before .before)) _ (c .before .before .before .find .ensures) _ (c .before .enum-told2 .given .1)) _ (c .refusal-of2 .ensures ∙ ap refusalIn (c .before .enum-told2 .given .1)))
 
 part-requires : tie.Need-part-requires
 part-requires c κs = search needs

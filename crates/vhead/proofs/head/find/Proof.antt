@@ -1,5 +1,5 @@
 -- `vhead::head::find` meets its contract. Assumes nothing.
-use mathlib.Core.Path.{sym}
+use mathlib.Core.Path.{sym, ap, _∙_}
 use Rattle.directory.proofs.Opens
 use Rattle.vhead.specs.Heads.{headWithin}
 use Rattle.vhead.proofs.HeadsRead
@@ -21,7 +21,11 @@ refusal-of-requires c κs = search needs
 
 returns : tie.Need-returns
 unfolding headWithin
-returns c = rw (c .refusal-of .ensures) (sym (Opens.refused-is _ _ (c .before .before .before .«open» .ensures) 12 _ _ (c .before .enum-told .given .1)), Opens.refused-positive _ _ (c .before .before .before .«open» .ensures) _ (c .before .enum-told .given .1))
+returns c =
+    let o = c .before .before .before .«open» .ensures in
+    let told = c .before .enum-told .given .1 in
+    let taken = c .refusal-of .ensures in
+    (sym (Opens.refused-is _ _ o 12 _ _ told _ taken), λ z. Opens.refused-positive _ _ o _ told (sym (ap (λ r. r .number) taken) ∙ z))
 
 find-in-requires : tie.Need-find-in-requires
 find-in-requires c κs = search needs

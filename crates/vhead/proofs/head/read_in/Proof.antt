@@ -1,13 +1,13 @@
 -- `vhead::head::read_in` meets its contract. Assumes nothing.
 use Prim.Native.Nat.{_*_, _≤_}
 use native.Mathlib.Omega.{arith}
-use mathlib.Core.Path.{sym, ap, _∙_}
+use mathlib.Core.Path.{sym, ap, subst, _∙_}
 use lib.ListN.{length}
 use Rattle.answer.specs.Search.{miss}
 use Rattle.directory.specs.Lookup.{findIn}
 use Rattle.vhead.specs.Limits.{head-tag}
 use Rattle.vhead.specs.Heads.{headIn}
-use Rattle.vhead.specs.Steps.{HeadHeld}
+use Rattle.vhead.specs.Steps.{HeadHeld, Held}
 use Rattle.vhead.proofs.HeadsRead
 use borrow.Author.Needs.{needs}
 use Rattle.vhead.proofs.head.read_in.Statement.{statement}
@@ -35,7 +35,11 @@ enum-told : tie.Need-enum-told
 enum-told c = search needs
 
 returns : tie.Need-returns
-returns c = HeadsRead.left _ _ _ _ _ (c .before .before .before .least .ensures) _ (c .before .before .find-in .ensures .0) _ (c .enum-told .given .1) (c .before .before .find-in .ensures .1)
+returns c =
+    let a = c .before .before .before .before .before .before .before .args in
+    let f = c .before .before .find-in in
+    let rooms = c .before .before .before .least .ensures in
+    (HeadsRead.left _ _ _ _ _ rooms _ (f .ensures .0) _ (c .enum-told .given .1) (f .ensures .1), subst (λ n. Held (a .image .now) (findIn (a .image .now) (a .blocks) head-tag (a .reference)) n (f .result)) rooms (f .ensures .1))
 
 part-requires : tie.Need-part-requires
 part-requires c κs = search needs
@@ -57,7 +61,13 @@ same-length-2 : tie.Need-same-length-2
 same-length-2 c = search needs
 
 returns-2 : tie.Need-returns-2
-returns-2 c = HeadsRead.listed _ _ _ _ _ (c .before .before .before .before .before .before .before .before .before .before .before .before .before .least .ensures) _ (c .before .before .before .before .before .before .before .before .before .before .before .before .find-in .ensures .0) _ _ _ (c .before .before .before .before .before .before .before .before .before .before .found .given .1) (held (c .before .before .before .before .before .before .before .before .before)) _ (c .before .before .before .before .before .before .before .before .part .ensures) _ _ (c .before .before .before .before .before .before .put-fields .ensures) (c .before .before .put-names .ensures)
+returns-2 c =
+    let a = c .before .before .before .before .before .before .before .before .before .before .before .before .before .before .before .before .before .args in
+    let g = c .before .before .before .before .before .before .before .before .before .before .found .given .0 in
+    let k = held (c .before .before .before .before .before .before .before .before .before) in
+    let f = c .before .before .before .before .before .before .before .before .before .before .before .before .find-in in
+    let rooms = c .before .before .before .before .before .before .before .before .before .before .before .before .before .least .ensures in
+    (HeadsRead.listed _ _ _ _ _ rooms _ (f .ensures .0) _ _ _ (c .before .before .before .before .before .before .before .before .before .before .found .given .1) k _ (c .before .before .before .before .before .before .before .before .part .ensures) _ _ (c .before .before .before .before .before .before .put-fields .ensures) (c .before .before .put-names .ensures), subst (λ n. HeadHeld (a .image .now) (findIn (a .image .now) (a .blocks) head-tag (a .reference)) n (g .0) (g .1 .0) (g .1 .1 .0)) rooms k)
 
 pub read-in-spec : {M : Type 1} → statement M
 read-in-spec =

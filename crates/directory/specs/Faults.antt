@@ -1,0 +1,85 @@
+-- The rules of opening in the order in which they are judged, as facts about the bytes, after document 01, "Directory". The numbers are
+-- the paper's own. Assumes nothing.
+use Prim.Native.Nat.{ℕ, _+_, _*_, _<_, _≤_}
+use mathlib.Core.Path.{_≡_}
+use mathlib.Core.Logic.{_⊎_}
+use mathlib.Core.List.{List, [], _∷_, _++_}
+use lib.ListN.{length, getD}
+use Rattle.answer.specs.Search.{In}
+use Rattle.answer.specs.Rules.{Rules, done, rule, AllHold, FirstBroken}
+use Rattle.wire.specs.Numbers.{be}
+use Rattle.directory.specs.Blocks.{slotCount, nextBlock, blockEnd}
+use Rattle.directory.specs.Slots.{tagAt, offsetAt, baseTag, sizeAt, elementEnd, slotPlaces}
+use Rattle.directory.specs.Opening.{openOf}
+use Rattle.directory.specs.Rules.{Apart, Linked, Live, Clashing}
+
+-- ---- Rules
+
+-- the length, then the first bytes
+abbrev pub headerRules : List ℕ → Rules
+headerRules s =
+    rule 1 0 (length s ≤ 2147483647)
+    (rule 2 0 ((4 ≤ length s) × (be 4 s 0 ≡ 0x0e031301))
+    done)
+
+-- a block, after those before it: no loop, the number of blocks, its header, the number of slots, all of it, off header and blocks
+abbrev pub blockRules : List ℕ → List ℕ → ℕ → Rules
+blockRules s before b =
+    rule 4 b (In b before → ⊥)
+    (rule 6 b (length before < 256)
+    (rule 3 b (b + 6 ≤ length s)
+    (rule 6 b (length (slotPlaces s before) + slotCount s b ≤ 4096)
+    (rule 3 b (b + 6 + 12 * slotCount s b ≤ length s)
+    (rule 5 b ((4 ≤ b) × ((c : ℕ) → In c before → Apart b (blockEnd s b) c (blockEnd s c)))
+    done)))))
+
+-- a live slot, after those before it: its tag, its element inside the image and off the directory, no live slot before it that clashes
+abbrev pub slotRules : List ℕ → List ℕ → List ℕ → ℕ → Rules
+slotRules s blocks before p =
+    rule 7 p ((baseTag (tagAt s p) ≡ 0 → ⊥) × (tagAt s p ≡ 16385 → ⊥))
+    (rule 8 p (0 < sizeAt s p → elementEnd s p ≤ length s)
+    (rule 9 p (0 < sizeAt s p → (4 ≤ offsetAt s p) × ((b : ℕ) → In b blocks → Apart (offsetAt s p) (elementEnd s p) b (blockEnd s b)))
+    (rule 10 p ((q : ℕ) → In q before → Live s q → Clashing s p q → ⊥)
+    done)))
+
+-- every call on an image opens it first: opening's number and place where it does not open, then the call's own rules
+abbrev pub openedRules : List ℕ → Rules → Rules
+openedRules s rest = rule (openOf s .number) (openOf s .place) (openOf s .number ≡ 0) rest
+
+-- ---- Where they are judged
+
+-- something holds of each of a list, after those before it
+abbrev pub Each : (List ℕ → ℕ → Type 0) → List ℕ → Type 0
+Each Holds l = (before : List ℕ) (x : ℕ) (after : List ℕ) → l ≡ before ++ (x ∷ after) → Holds before x
+
+abbrev pub BlocksHold : List ℕ → List ℕ → Type 0
+BlocksHold s bs = Each (λ before b. AllHold (blockRules s before b)) bs
+
+abbrev pub SlotsHold : List ℕ → List ℕ → List ℕ → Type 0
+SlotsHold s blocks ps = Each (λ before p. Live s p → AllHold (slotRules s blocks before p)) ps
+
+-- the links lead from the block at b through the blocks cs to the one at a place
+abbrev pub Leads : List ℕ → ℕ → List ℕ → ℕ → Type 0
+Leads s b [] at = b ≡ at
+Leads s b (c ∷ cs) at = (b ≡ c) × (nextBlock s c ≡ 0 → ⊥) × Leads s (nextBlock s c) cs at
+
+-- the whole chain is sound, and its blocks stand at the places bs
+abbrev pub WholeChain : List ℕ → List ℕ → Type 0
+WholeChain s bs = (getD bs 0 0 ≡ 4) × Linked s bs × BlocksHold s bs
+
+-- ---- The first fault
+
+-- at a block to which the chain leads through blocks that keep the rules
+abbrev pub AtBlock : List ℕ → ℕ → ℕ → Type 0
+AtBlock s n p = (before : List ℕ) × Leads s 4 before p × BlocksHold s before × FirstBroken (blockRules s before p) n p
+
+-- at a live slot, where the whole chain is sound and every live slot before it keeps the rules
+abbrev pub AtSlot : List ℕ → ℕ → ℕ → Type 0
+AtSlot s n p =
+    (bs : List ℕ) × WholeChain s bs
+    × ((before : List ℕ) × (after : List ℕ) × (slotPlaces s bs ≡ before ++ (p ∷ after))
+    × SlotsHold s bs before × Live s p × FirstBroken (slotRules s bs before p) n p)
+
+-- the rule with this number is broken at this place, and nothing that is judged before it is
+abbrev pub Faulty : List ℕ → ℕ → ℕ → Type 0
+Faulty s n p = FirstBroken (headerRules s) n p ⊎ (AllHold (headerRules s) × (AtBlock s n p ⊎ AtSlot s n p))

@@ -1,0 +1,83 @@
+-- A value of a Vdata as facts about the bytes of its head and of its values, after document 01, "Records". The numbers are the paper's own.
+-- Assumes nothing.
+use Prim.Native.Nat.{ℕ, _+_, _*_, _^_, _<_, _≤_}
+use mathlib.Core.Path.{_≡_}
+use mathlib.Core.Logic.{_⊎_}
+use mathlib.Core.Bool.{false}
+use mathlib.Core.List.{List}
+use lib.ListN.{length, getD}
+use Rattle.answer.specs.Search.{Hit, hit}
+use Rattle.answer.specs.Rules.{Rules, done, rule}
+use Rattle.wire.specs.Numbers.{be}
+use Rattle.directory.specs.Opening.{openOf}
+use Rattle.directory.specs.Lookup.{find}
+use Rattle.storage.specs.Elements.{extendedAt}
+use Rattle.records.specs.Readings.{recordBytes}
+use Rattle.records.specs.RecordRules.{slotIn, plainRules, recordRules}
+use Rattle.records.specs.Types.{TypeIs}
+use Rattle.vhead.specs.Heads.{headFault}
+use Rattle.vhead.specs.HeadRules.{interlaceOf, recordsOf, recordSizeOf, fieldCount, typeOf, sizeOf, offsetOf, orderOf, headRules}
+
+-- ---- A value
+
+-- a record, a field and a component that there are, by the head's bytes e
+pub record Indexed (e : List ℕ) (r i c : ℕ) : Type 0 where
+  pub record-there : r < recordsOf e
+  pub field-there : i < fieldCount e
+  pub component-there : c < orderOf e i
+
+-- where component c of field i in record r lies: record by record, or field by field
+abbrev pub LiesAt : List ℕ → ℕ → ℕ → ℕ → ℕ → ℕ → Type 0
+LiesAt e r i c width at =
+    ((interlaceOf e ≡ 0) × (at ≡ r * recordSizeOf e + offsetOf e i + c * width))
+    ⊎ ((interlaceOf e ≡ 1) × (at ≡ recordsOf e * offsetOf e i + r * sizeOf e i + c * width))
+
+-- the bits of a value whose bytes stand in v from a place on: a signed number's in 64 bits of two's complement, negative where its first
+-- byte is 128 or more; of every other kind the number that the bytes are
+pub record BitsAre (kind width : ℕ) (v : List ℕ) (at bits : ℕ) : Type 0 where
+  pub exact : (kind ≡ 1 → ⊥) → bits ≡ be width v at
+  pub positive : kind ≡ 1 → getD v at 0 < 128 → bits ≡ be width v at
+  pub negative : kind ≡ 1 → 128 ≤ getD v at 0 → bits + 256 ^ width ≡ be width v at + 18446744073709551616
+
+-- a value's kind and bits, by the bytes e of the head and v of the values
+pub record ValueIs (e v : List ℕ) (r i c kind bits : ℕ) : Type 0 where
+  pub width : ℕ
+  pub place : ℕ
+  pub indexed : Indexed e r i c
+  pub type-is : TypeIs (typeOf e i) kind width
+  pub lies : LiesAt e r i c width place
+  pub inside : place + width ≤ length v
+  pub bits-are : BitsAre kind width v place bits
+
+-- ---- Which values are given
+
+-- the element is there, in plain storage
+pub record InPlain (s : List ℕ) (tag ref : ℕ) : Type 0 where
+  pub slot : ℕ
+  pub found : find s tag ref ≡ hit slot
+  pub plain : extendedAt s slot ≡ false
+
+-- an image that opens, with a head that breaks no rule, a value of these indices, and values at least as long as all records
+pub record Readable (s : List ℕ) (ref r i c : ℕ) : Type 0 where
+  pub opens : openOf s .number ≡ 0
+  pub head : InPlain s 1962 ref
+  pub sound : headFault (recordBytes s (find s 1962 ref)) ≡ 0
+  pub indexed : Indexed (recordBytes s (find s 1962 ref)) r i c
+  pub values : InPlain s 1963 ref
+  pub whole : let e = recordBytes s (find s 1962 ref) in recordsOf e * recordSizeOf e ≤ length (recordBytes s (find s 1963 ref))
+
+-- ---- The rules, in the order in which they are judged
+
+-- after a sound head of the bytes e: a record, a field and a component that there are, then values that are there, in plain storage, at least as
+-- long as all records
+abbrev pub afterRules : List ℕ → List ℕ → Hit → ℕ → ℕ → ℕ → Rules
+afterRules s e values r i c =
+    rule 17 0 (r < recordsOf e)
+    (rule 17 0 (i < fieldCount e)
+    (rule 17 0 (c < orderOf e i)
+    (plainRules s values
+    (rule 15 (slotIn values) (recordsOf e * recordSizeOf e ≤ length (recordBytes s values))
+    done))))
+
+abbrev pub valueRules : List ℕ → ℕ → ℕ → ℕ → ℕ → Rules
+valueRules s ref r i c = recordRules s 1962 ref (λ p e. headRules p e (afterRules s e (find s 1963 ref) r i c))
