@@ -1,18 +1,16 @@
 -- The claims that join edits and reading: what view and copy give after a granted edit. Assumes nothing.
 use Prim.Native.Nat.{ℕ, _<_, _≤_}
-use mathlib.Core.Path.{_≡_, refl, sym, ap, _∙_}
-use mathlib.Core.Logic.{inl, inr}
-use mathlib.Core.Bool.{Bool, true, false, _&&_}
+use mathlib.Core.Path.{_≡_, sym, ap, _∙_}
+use mathlib.Core.Bool.{false}
 use mathlib.Core.List.{List, [], _∷_, _++_}
 use lib.ListN.{length, take, drop}
-use lib.Dec.{leb}
-use borrow.Author.Tests.{lt-leb}
 use Rattle.answer.specs.Answer.{grant}
 use Rattle.directory.specs.Slots.{tagAt}
 use Rattle.directory.proofs.Claims.{find-found, find-absent}
 use Rattle.directory.proofs.Named.{granted-opens}
 use Rattle.storage.specs.Elements.{extendedAt, startAt}
 use Rattle.storage.specs.Views.{viewOf, bytesOf}
+use Rattle.storage.proofs.Elements.{plain-tag}
 use Rattle.storage.proofs.Views.{granted-view, bytes-granted}
 use Rattle.storage.proofs.Claims.{view-plain, view-absent, copy-plain, copy-absent}
 use Rattle.journal.specs.Outcomes.{Outcome, granted}
@@ -28,12 +26,7 @@ use Rattle.hdf4.specs.EditReads.{GivesContent, GivesNothing}
 -- ---- An element that is found under a tag that edits take
 
 edit-plain : (s : List ℕ) (p tag : ℕ) → tagAt s p ≡ tag → EditTag tag → extendedAt s p ≡ false
-unfolding extendedAt
-edit-plain s p tag is good = rw is (elim (good .3) [ inl l ↦ rw (lt-leb 16384 tag l) | inr l ↦ rw (lt-leb tag 32767 l) (and-none (leb 16384 tag)) ])
-  where
-    and-none : (b : Bool) → b && false ≡ false
-    and-none true = refl
-    and-none false = refl
+edit-plain s p tag is good = plain-tag s p .1 (rw is (good .3))
 
 reads-given : (t : List ℕ) (tag ref : ℕ) (content : List ℕ) → ReadsBack t tag ref content → EditTag tag → GivesContent t tag ref content
 reads-given t tag ref content r good =

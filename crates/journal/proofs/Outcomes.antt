@@ -3,7 +3,7 @@ use Prim.Native.Nat.{ℕ, zero, suc, _<_, _≤_}
 use mathlib.Core.Path.{_≡_, refl, sym, ap, _∙_}
 use mathlib.Core.Logic.{_↔_, _⊎_, inl, inr}
 use mathlib.Core.List.{List}
-use mathlib.Core.Bool.{Bool, true, false, _&&_, _||_}
+use mathlib.Core.Bool.{Bool, true, false, _&&_, _||_, and-false}
 use native.Mathlib.Nat.{suc-ne-zero}
 use native.Mathlib.Omega.{arith}
 use lib.ListN.{length}
@@ -12,9 +12,9 @@ use borrow.Author.Tests.{leb-true, leb-false, le-leb, lt-leb, eqb-true, eqb-fals
 use Rattle.answer.specs.Refusals.{TOO-LONG, BAD-TAG, NO-ROOM}
 use Rattle.answer.specs.Search.{Hit, hit, miss}
 use Rattle.answer.specs.declared.Refusal.{Refusal}
-use Rattle.answer.proofs.Tests.{or-clear, and-fails, on-false, picks, zero?, same?}
+use Rattle.answer.proofs.Tests.{or-clear, or-neither, and-fails, picks, zero?, same?}
 use Rattle.answer.proofs.Search.{must-holds, must-fails, passed}
-use Rattle.directory.specs.Limits.{most-bytes, free-tag, lone-tag, extended-first, extended-last, extended-free}
+use Rattle.directory.specs.Limits.{most-bytes, free-tag, lone-tag, extended-free}
 use Rattle.directory.specs.Slots.{baseTag}
 use Rattle.directory.specs.Opening.{openedNumbers, refusalOf, openOf}
 use Rattle.directory.specs.Lookup.{hitFound, find, findIn}
@@ -24,9 +24,11 @@ use Rattle.directory.specs.declared.Counts.{Counts}
 use Rattle.directory.specs.declared.Opened.{Opened}
 use Rattle.directory.specs.declared.Opened.the-variants.{Accepted, Refused}
 use Rattle.directory.specs.declared.Found.the-variants.{At, Missing}
+use Rattle.directory.proofs.Claims.{base-tag-plain}
 use Rattle.directory.proofs.Opens.{accepted-with, opened-find, refused-positive, refused-answer}
 use Rattle.journal.specs.Outcomes.{Outcome, granted, refused, passing, openedTo}
 use Rattle.journal.specs.Undos.{opens}
+use Rattle.journal.specs.Rules.{EditTag}
 use Rattle.journal.specs.Edits.{fitFault, fitted, badTag, tagged}
 
 pub refused-granted : (number place : ℕ) (t : List ℕ) → refused number place ≡ granted t → ⊥
@@ -161,7 +163,27 @@ module _ (tag : ℕ) where
         unfolding badTag
         bad-extended h = rw (badTag, ne-eqb _ _ some, ne-eqb _ _ used, ne-eqb _ _ common, le-leb _ _ h)
 
--- a tag that edits take
+-- the tags that edits take, by the test
+pub tag-good : (tag : ℕ) → badTag tag ≡ false → EditTag tag
+unfolding badTag
+tag-good tag e =
+    let extended = leb 16384 tag && leb tag 32767 in
+    let h₁ = or-clear (eqb tag 0 || eqb tag 1 || eqb tag 107) extended e in
+    let h₂ = or-clear (eqb tag 0 || eqb tag 1) (eqb tag 107) (h₁ .0) in
+    let h₃ = or-clear (eqb tag 0) (eqb tag 1) (h₂ .0) in (
+      eqb-false tag 0 (h₃ .0),
+      eqb-false tag 1 (h₃ .1),
+      eqb-false tag 107 (h₂ .1),
+      elim (and-fails (leb 16384 tag) (leb tag 32767) (h₁ .1)) [ inl f ↦ inl (leb-false 16384 tag f) | inr f ↦ inr (leb-false tag 32767 f) ],
+    )
+
+pub tag-bad : (tag : ℕ) → EditTag tag → badTag tag ≡ false
+unfolding badTag
+tag-bad tag g =
+    or-neither _ _ (or-neither _ _ (or-neither _ _ (ne-eqb _ _ (g .0)) (ne-eqb _ _ (g .1))) (ne-eqb _ _ (g .2)))
+    (elim (g .3) [ inl l ↦ rw (lt-leb _ _ l) | inr l ↦ rw (lt-leb _ _ l) (and-false (leb 16384 tag)) ])
+
+-- what follows of such a tag
 pub record Taken (tag : ℕ) : Type 0 where
   pub not-zero : tag ≡ 0 → ⊥
   pub not-free : tag ≡ free-tag → ⊥
@@ -170,21 +192,14 @@ pub record Taken (tag : ℕ) : Type 0 where
   pub base : baseTag tag ≡ tag
 
 tag-taken : (tag : ℕ) → badTag tag ≡ false → Taken tag
-unfolding badTag baseTag
 tag-taken tag e =
-    let extended = leb extended-first tag && leb tag extended-last in
-    let h₁ = or-clear (eqb tag 0 || eqb tag free-tag || eqb tag lone-tag) extended e in
-    let h₂ = or-clear (eqb tag 0 || eqb tag free-tag) (eqb tag lone-tag) (h₁ .0) in
-    let h₃ = or-clear (eqb tag 0) (eqb tag free-tag) (h₂ .0) in
+    let g = tag-good tag e in
     record {
-      not-zero = eqb-false tag 0 (h₃ .0);
-      not-free = eqb-false tag free-tag (h₃ .1);
-      not-lone = eqb-false tag lone-tag (h₂ .1);
-      not-extended-free = λ q. elim (and-fails (leb extended-first tag) (leb tag extended-last) (h₁ .1)) [
-        | inl f ↦ omega (arith, leb-false extended-first tag f)
-        | inr f ↦ omega (arith, leb-false tag extended-last f)
-      ];
-      base = on-false extended _ _ (h₁ .1);
+      not-zero = g .0;
+      not-free = g .1;
+      not-lone = g .2;
+      not-extended-free = λ q. elim (g .3) [ inl l ↦ omega arith | inr l ↦ omega arith ];
+      base = base-tag-plain tag (g .3);
     }
 
 pub tagged-bad : (s : List ℕ) (tag : ℕ) → openOf s .number ≡ 0 → badTag tag ≡ true → (rest : Outcome) → tagged s tag rest ≡ refused 7 0

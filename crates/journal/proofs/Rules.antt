@@ -8,12 +8,12 @@ use mathlib.Core.Bool.{Bool, true, false, not, _&&_, _||_}
 use native.Mathlib.Omega.{arith}
 use lib.ListN.{length, take, length-append}
 use lib.Dec.{leb, ltb, eqb}
-use borrow.Author.Tests.{leb-true, leb-false, le-leb, lt-leb, le-ltb, ltb-false, eqb-true, eqb-false, eq-eqb, ne-eqb, not-true}
+use borrow.Author.Tests.{leb-true, leb-false, le-leb, lt-leb, le-ltb, ltb-false, eqb-true, eq-eqb, not-true}
 use Rattle.wire.specs.Numbers.{be, bytes, put, Bytes}
 use Rattle.wire.proofs.Numbers.{length-put, bytes-be, bytes-take}
 use Rattle.answer.specs.Search.{any, Hit, hit, miss, first}
 use Rattle.answer.specs.Rules.{Rules, done, rule, AllHold, FirstBroken}
-use Rattle.answer.proofs.Tests.{test, by-test, fails, same?, le?, and-fails, and-split, and-both, or-split, or-either, or-clear, or-neither, on-true, on-false, not-both}
+use Rattle.answer.proofs.Tests.{test, by-test, fails, same?, le?, and-split, and-both, or-split, or-either, or-clear, or-neither, on-true, on-false, not-both}
 use Rattle.answer.proofs.Search.{any-some, any-in, first-hit, first-split, first-miss}
 use Rattle.answer.proofs.Rules.{Goes, goes-done, goes-rule, exactly}
 use Rattle.directory.specs.Blocks.{blocksOf}
@@ -33,7 +33,7 @@ use Rattle.journal.specs.Trailers.{trailerAt, carries, previousOf, oldBy
 use Rattle.journal.specs.Undos.{restored, placeKnown, known, opens, sound, undoTo, undoOf}
 use Rattle.journal.specs.declared.change.Change.{Change}
 use Rattle.journal.specs.Rules.{Carries, trailerPlace, placeAltered, bytesAltered, oldAt, paddingAt, lengthBefore, previousTrailer, imageBefore, AlteredKnown, PaddingZero, PreviousIs, undoRules, imageRules, EditTag, FreeSlot, NoneFree, HasRoom, AddedFits, addRules, changeRules, replaceRules, removeRules}
-use Rattle.journal.proofs.Outcomes.{refused-granted, opens-true, passing-stops, openedTo-goes, fault-long, fault-room, fault-none, fitted-there, fitted-fault}
+use Rattle.journal.proofs.Outcomes.{tag-good, tag-bad, refused-granted, opens-true, passing-stops, openedTo-goes, fault-long, fault-room, fault-none, fitted-there, fitted-fault}
 use Rattle.journal.proofs.Trailers.{trailer-fields, slot-old, previous-none, previous-there, length-trailer}
 use Rattle.journal.proofs.Runs.{length-data, length-block}
 use Rattle.journal.proofs.Undos.{undone}
@@ -73,31 +73,6 @@ module _ (buffer : List ℕ) (n : ℕ) (o : Outcome) (R : Rules) where
       by-rule all 1 0 _ _ (le? n (length buffer)) (λ z. on-false (leb n (length buffer)) _ _ (lt-leb n (length buffer) (omega arith)))
       (λ fits. by-rule all _ _ _ _ (same? (openOf s .number) 0) (λ z. inside buffer n _ fits ∙ passing-stops _ _ o z)
       (λ opens. by-same R all o (inside buffer n _ fits ∙ openedTo-goes s o opens) (rest fits opens)))
-
--- ---- An edit's tag
-
-tag-good : (tag : ℕ) → badTag tag ≡ false → EditTag tag
-unfolding badTag
-tag-good tag e =
-    let extended = leb 16384 tag && leb tag 32767 in
-    let h₁ = or-clear (eqb tag 0 || eqb tag 1 || eqb tag 107) extended e in
-    let h₂ = or-clear (eqb tag 0 || eqb tag 1) (eqb tag 107) (h₁ .0) in
-    let h₃ = or-clear (eqb tag 0) (eqb tag 1) (h₂ .0) in (
-      eqb-false tag 0 (h₃ .0),
-      eqb-false tag 1 (h₃ .1),
-      eqb-false tag 107 (h₂ .1),
-      elim (and-fails (leb 16384 tag) (leb tag 32767) (h₁ .1)) [ inl f ↦ inl (leb-false 16384 tag f) | inr f ↦ inr (leb-false tag 32767 f) ],
-    )
-
-tag-bad : (tag : ℕ) → EditTag tag → badTag tag ≡ false
-unfolding badTag
-tag-bad tag g =
-    or-neither _ _ (or-neither _ _ (or-neither _ _ (ne-eqb _ _ (g .0)) (ne-eqb _ _ (g .1))) (ne-eqb _ _ (g .2)))
-    (elim (g .3) [ inl l ↦ rw (lt-leb _ _ l) | inr l ↦ rw (lt-leb _ _ l) (and-none (leb 16384 tag)) ])
-  where
-    and-none : (b : Bool) → b && false ≡ false
-    and-none true = refl
-    and-none false = refl
 
 -- ---- A tag and a file that fit
 

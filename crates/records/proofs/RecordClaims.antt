@@ -1,9 +1,7 @@
 -- The claims about what is granted and what is refused: a reading is granted exactly if its rules hold, and a number and a place are answered
 -- exactly if the first rule that is broken has them. And what a granted reading tells, each field at its place among the record's bytes. Assumes
 -- nothing.
-use Prim.Native.Nat.{ℕ, zero, suc, _+_, _*_, _<_, _≤_}
-use native.Mathlib.Nat.{add-zero, mul-suc, mul-zero}
-use native.Mathlib.Omega.{arith}
+use Prim.Native.Nat.{ℕ, _+_, _*_, _<_, _≤_}
 use mathlib.Core.Path.{_≡_, refl, sym, ap, _∙_}
 use mathlib.Core.Logic.{_↔_}
 use mathlib.Core.List.{List, [], _∷_}
@@ -16,8 +14,8 @@ use Rattle.answer.specs.Rules.{AllHold, FirstBroken}
 use Rattle.answer.proofs.Tests.{and-split, and-both}
 use Rattle.wire.specs.Numbers.{be}
 use Rattle.answer.proofs.Answer.{inRoom-passed}
-use Rattle.wire.specs.Layouts.{read, extent, numbersAt}
-use Rattle.wire.proofs.Layouts.{length-numbersAt}
+use Rattle.wire.specs.Layouts.{read, extent}
+use Rattle.wire.proofs.Layouts.{length-numbersAt, number-at}
 use Rattle.directory.specs.Lookup.{find}
 use Rattle.records.specs.NumberTypes.{numberType, numberTypeFault, numberTypeAt, numberTypeOf}
 use Rattle.records.specs.Dimensions.{dimension, dimensionFault, dimensionAt, dimensionOf}
@@ -118,15 +116,6 @@ both-fit a b c d = (
   (λ e. let h = and-split (leb a b) (leb c d) e in (leb-true a b (h .0), leb-true c d (h .1))),
   (λ h. and-both (leb a b) (leb c d) (le-leb a b (h .0)) (le-leb c d (h .1))),
 )
-
--- the k-th number of a run
-number-at : (width count : ℕ) (e : List ℕ) (at k : ℕ) → k < count → getD (numbersAt width count e at) k 0 ≡ be width e (at + width * k)
-unfolding numbersAt
-number-at width zero e at k h = absurd (omega arith)
-number-at width (suc count) e at zero h = rw (mul-zero, add-zero)
-number-at width (suc count) e at (suc k) h =
-    let a : at + width + width * k ≡ at + width * suc k = rw mul-suc (omega arith) in
-    number-at width count e (at + width) k (omega arith) ∙ ap (be width e) a
 
 module _ (s : List ℕ) (ref sizes pairs : ℕ) where
   array-by : By 1 (arrayRules s ref sizes pairs) (arrayOf s ref sizes pairs)

@@ -7,8 +7,6 @@ use mathlib.Core.Path.{_≡_, refl, sym, ap, _∙_}
 use mathlib.Core.Logic.{_↔_, _⊎_, inl, inr}
 use mathlib.Core.List.{List}
 use mathlib.Core.Bool.{Bool, true, false, false≢true}
-use lib.Dec.{leb}
-use borrow.Author.Tests.{leb-true, leb-false, lt-leb}
 use Rattle.answer.specs.Answer.{Answer, refuse, unless, inRoom}
 use Rattle.answer.specs.Search.{Hit, hit, miss, must}
 use Rattle.answer.specs.Rules.{Rules, done, rule, AllHold, FirstBroken}
@@ -22,27 +20,13 @@ use Rattle.directory.specs.Lookup.{find}
 use Rattle.directory.proofs.Opens.{opened-goes, opened-stops}
 use Rattle.storage.specs.Elements.{extendedAt, elementAt, plainOnly, locatedAt, refusalIn}
 use Rattle.storage.specs.declared.element.Located.the-variants as located
-use Rattle.storage.proofs.Elements.{extended-below, extended-upto, element-plain, element-extended, located-positive}
+use Rattle.storage.proofs.Elements.{plain-tag, element-plain, element-extended, located-positive}
 use Rattle.records.specs.Readings.{recordAt, recordOf, recordBytes}
 use Rattle.directory.specs.Faults.{openedRules}
 use Rattle.records.specs.RecordRules.{slotIn, plainRules, recordRules}
 use Rattle.records.proofs.Readings.{reads-refusal, reads-broken, reads-passed, reads-bytes}
 
 -- ---- Plain storage
-
--- by the tag
-plain-tag : (s : List ℕ) (p : ℕ) → (extendedAt s p ≡ false) ↔ ((tagAt s p < 16384) ⊎ (32767 < tagAt s p))
-plain-tag s p = (
-  (λ e. elim (test (leb 16384 (tagAt s p))) [
-    | inr b ↦ inl (omega (arith, leb-false 16384 (tagAt s p) b))
-    | inl b ↦
-        let low = leb-true 16384 (tagAt s p) b in inr (omega (arith, leb-false (tagAt s p) 32767 (sym (extended-upto s p low) ∙ e)))
-  ]),
-  (λ h. elim h [
-    | inl l ↦ extended-below s p l
-    | inr l ↦ extended-upto s p (omega arith) ∙ lt-leb (tagAt s p) 32767 l
-  ]),
-)
 
 -- what was found is refused, or its element stands at its slot and goes by the rules after these
 module _ (Granted : Type 0) (Refused : ℕ → ℕ → Type 0) (s : List ℕ) (rest : Rules) where

@@ -3,12 +3,12 @@ use Prim.Native.Nat.{ℕ, zero, suc, _+_, _*_, _-_, _<_, _≤_}
 use native.Mathlib.Nat.{suc-ne-zero}
 use native.Mathlib.Omega.{arith}
 use mathlib.Core.Path.{_≡_, refl, sym, ap, _∙_}
-use mathlib.Core.Logic.{inl, inr}
+use mathlib.Core.Logic.{_↔_, _⊎_, inl, inr}
 use mathlib.Core.List.{List}
 use mathlib.Core.Bool.{true, false}
 use lib.Dec.{leb, ltb}
 use lib.ListN.{length, take, drop}
-use borrow.Author.Tests.{ltb-true, ltb-false, le-leb, lt-leb, eq-eqb, ne-eqb}
+use borrow.Author.Tests.{ltb-true, ltb-false, leb-true, leb-false, le-leb, lt-leb}
 use Rattle.answer.specs.Search.{Hit, hit, miss, In}
 use Rattle.answer.specs.Answer.{Answer}
 use Rattle.answer.specs.declared.Refusal.{Refusal}
@@ -17,7 +17,7 @@ use Rattle.wire.specs.Numbers.{part, Bytes}
 use Rattle.wire.proofs.Numbers.{be-small, length-part}
 use Rattle.directory.specs.Limits.{lone-tag}
 use Rattle.directory.specs.Blocks.{slotCount, nextBlock}
-use Rattle.directory.specs.Slots.{tagAt, offsetAt, lengthAt, rows, slotsOf, baseTag, sizeAt, contentAt}
+use Rattle.directory.specs.Slots.{tagAt, offsetAt, rows, slotsOf, baseTag, sizeAt, contentAt}
 use Rattle.directory.specs.Opening.{openOf}
 use Rattle.directory.specs.Links.{slotsAfter}
 use Rattle.directory.specs.Lookup.{find, findIn}
@@ -44,13 +44,19 @@ module _ (s : List ℕ) (p : ℕ) where
   unfolding extendedAt
   extended-upto h = simp (extendedAt, le-leb _ _ h)
 
-  pub size-lone : baseTag (tagAt s p) ≡ lone-tag → sizeAt s p ≡ 0
-  unfolding sizeAt
-  size-lone h = simp (sizeAt, eq-eqb _ _ h)
-
-  pub size-other : (baseTag (tagAt s p) ≡ lone-tag → ⊥) → sizeAt s p ≡ lengthAt s p
-  unfolding sizeAt
-  size-other h = simp (sizeAt, ne-eqb _ _ h)
+  -- plain storage, by the tag
+  pub plain-tag : (extendedAt s p ≡ false) ↔ ((tagAt s p < 16384) ⊎ (32767 < tagAt s p))
+  plain-tag = (
+    (λ e. elim (test (leb 16384 (tagAt s p))) [
+      | inr b ↦ inl (omega (arith, leb-false 16384 (tagAt s p) b))
+      | inl b ↦
+          let low = leb-true 16384 (tagAt s p) b in inr (omega (arith, leb-false (tagAt s p) 32767 (sym (extended-upto low) ∙ e)))
+    ]),
+    (λ h. elim h [
+      | inl l ↦ extended-below l
+      | inr l ↦ extended-upto (omega arith) ∙ lt-leb (tagAt s p) 32767 l
+    ]),
+  )
 
   pub start-empty : sizeAt s p ≡ 0 → startAt s p ≡ 0
   unfolding startAt

@@ -1,7 +1,6 @@
 -- What a reader may rely on of Vgroups: packing what was read is granted and gives back its bytes, reading gives back what was packed,
 -- what is granted and what is refused, and what a granted reading tells, each field at its place among the record's bytes. Assumes nothing.
 use Prim.Native.Nat.{ℕ, zero, suc, _+_, _*_, _/_, _<_, _≤_}
-use native.Mathlib.Nat.{one-mul}
 use native.Mathlib.Omega.{arith}
 use mathlib.Core.Path.{_≡_, sym, ap, _∙_}
 use mathlib.Core.Logic.{_↔_}
@@ -29,7 +28,7 @@ use Rattle.vset.specs.Columns.{rows2}
 use Rattle.vset.specs.Tails.{tail}
 use Rattle.vset.specs.declared.tail.Tail.{Tail}
 use Rattle.vset.specs.declared.tail.Ending.{Ending}
-use Rattle.vset.proofs.Tails.{Narrow, endingOf, tailIn}
+use Rattle.vset.proofs.Tails.{Narrow, endingOf, tail-named}
 use Rattle.vgroup.specs.Limits.{group-tag}
 use Rattle.vgroup.specs.Groups.{group, groupFault, groupMembers, groupValues, groupAt, groupOf, groupBytes, groupPackFault}
 use Rattle.vgroup.specs.declared.group.Group.{Group}
@@ -119,31 +118,6 @@ row-at (suc n) e a b (suc i) h =
     let first : a + 2 + 2 * i ≡ a + 2 * suc i = omega arith in
     let second : b + 2 + 2 * i ≡ b + 2 * suc i = omega arith in
     (ap (λ k. getD rows k 0) even ∙ rest .0 ∙ ap (be 2 e) first, ap (λ k. getD rows k 0) odd ∙ rest .1 ∙ ap (be 2 e) second)
-
--- a tail that stands at a place, by name
-tail-named : (e : List ℕ) (at : ℕ)
-    → let l = be 2 e at in let m = be 2 e (at + 2 + l) in let t = at + 2 + l + 2 + m in
-    tailIn e at
-    ≡ record {
-      name = at + 2;
-      «name_length» = l;
-      class = at + 2 + l + 2;
-      «class_length» = m;
-      «extension_tag» = be 2 e t;
-      «extension_ref» = be 2 e (t + 2);
-      version = be 2 e (t + 4);
-      more = be 2 e (t + 6);
-      end = t + 8;
-    }
-unfolding read
-tail-named e at =
-    let l = be 2 e at in
-    let m = be 2 e (at + 2 + l) in
-    let t = at + 2 + l + 2 + m in
-    let four : t + 2 + 2 ≡ t + 4 = omega arith in
-    let six : t + 4 + 2 ≡ t + 6 = omega arith in
-    let eight : t + 6 + 2 ≡ t + 8 = omega arith in
-    rw (one-mul l, one-mul m, four, six, eight)
 
 module _ (e : List ℕ) where
   -- what is read of the bytes e, by name

@@ -324,3 +324,28 @@ tail-places s tag ref p f t at is inside =
     let short = opens-kept s (f .sound) .short in
     let last : tailIn (contentAt s p) at .end ≤ length (contentAt s p) = rw is at inside in
     rw is (omega (arith, f .inside, last), omega (arith, f .inside, last))
+
+-- a tail that stands at a place, by name
+pub tail-named : (e : List ℕ) (at : ℕ)
+    → let l = be 2 e at in let m = be 2 e (at + 2 + l) in let t = at + 2 + l + 2 + m in
+    tailIn e at
+    ≡ record {
+      name = at + 2;
+      «name_length» = l;
+      class = at + 2 + l + 2;
+      «class_length» = m;
+      «extension_tag» = be 2 e t;
+      «extension_ref» = be 2 e (t + 2);
+      version = be 2 e (t + 4);
+      more = be 2 e (t + 6);
+      end = t + 8;
+    }
+unfolding read
+tail-named e at =
+    let l = be 2 e at in
+    let m = be 2 e (at + 2 + l) in
+    let t = at + 2 + l + 2 + m in
+    let four : t + 2 + 2 ≡ t + 4 = omega arith in
+    let six : t + 4 + 2 ≡ t + 6 = omega arith in
+    let eight : t + 6 + 2 ≡ t + 8 = omega arith in
+    rw (one-mul l, one-mul m, four, six, eight)

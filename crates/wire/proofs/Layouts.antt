@@ -36,6 +36,15 @@ length-bytesEach width (x ∷ xs) =
     length-append (bytes width x) (bytesEach width xs) ∙ rw (length-bytes, length-bytesEach width xs, mul-suc) (omega arith)
 
 -- the first of those from the i-th on, then the rest: what a loop does at i
+-- the k-th number of a run
+pub number-at : (width count : ℕ) (e : List ℕ) (at k : ℕ) → k < count → getD (numbersAt width count e at) k 0 ≡ be width e (at + width * k)
+unfolding numbersAt
+number-at width zero e at k h = absurd (omega arith)
+number-at width (suc count) e at zero h = rw (mul-zero, add-zero)
+number-at width (suc count) e at (suc k) h =
+    let a : at + width + width * k ≡ at + width * suc k = rw mul-suc (omega arith) in
+    number-at width count e (at + width) k (omega arith) ∙ ap (be width e) a
+
 pub numbersAt-next : (width count : ℕ) (e : List ℕ) (at i : ℕ) → i < count
     → numbersAt width (count - i) e (at + width * i) ≡ be width e (at + width * i) ∷ numbersAt width (count - (i + 1)) e (at + width * (i + 1))
 unfolding numbersAt
