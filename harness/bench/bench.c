@@ -11,21 +11,7 @@
 #include "hdf.h"
 #include "hdf4.h"
 
-#define COUNT(list) ((int)(sizeof(list) / sizeof((list)[0])))
 #define LARGE ((size_t)64 << 20)
-
-void need(int holds, const char *what)
-{
-    if (holds)
-        return;
-    fprintf(stderr, "bench: failed: %s\n", what);
-    exit(1);
-}
-
-/* How many slots a file has, and how many of them are in a block. */
-static const struct {
-    int slots, per_block;
-} sizes[] = {{16, 16}, {100, 20}, {500, 20}, {1000, 20}, {2000, 20}, {4096, 16}};
 
 /* A reference that moves through the file from round to round. */
 static uint16_t reference_of(const struct file *file, int round)
@@ -234,7 +220,7 @@ static void copying_rows(const char *folder)
 
 static void each_file(const char *folder, void (*row)(const struct file *, enum order))
 {
-    for (int i = 0; i < COUNT(sizes); i++)
+    for (int i = 0; i < SIZES; i++)
         for (int order = 0; order < ORDERS; order++) {
             struct file file = make_file(folder, "elements.hdf", sizes[i].slots, sizes[i].per_block, (enum order)order);
             row(&file, (enum order)order);

@@ -1,11 +1,13 @@
-/* What the parts of the benchmark share. */
+/* What the parts of the benchmark, and its two programs, share. */
 #ifndef BENCH_H
 #define BENCH_H
 
 #include <stddef.h>
 #include <stdint.h>
 
-/* Ends the program if something failed, with a word about it. */
+#define COUNT(list) ((int)(sizeof(list) / sizeof((list)[0])))
+
+/* Ends the program if something failed, with a word about it (need.c). */
 void need(int holds, const char *what);
 
 /* ---- Files (files.c) ---- */
@@ -17,6 +19,16 @@ void need(int holds, const char *what);
 
 enum order { ASCENDING, SHUFFLED, DESCENDING, ORDERS };
 extern const char *const order_names[ORDERS];
+
+/* How many slots a file has, and how many of them are in a block. */
+enum { SIZES = 6 };
+struct size {
+    int slots, per_block;
+};
+extern const struct size sizes[SIZES];
+
+/* Shuffles numbers, in the same way in every run. */
+void shuffle(uint16_t *numbers, int count);
 
 /* A file that libhdf4 wrote: its path, and its bytes at the front of a buffer. */
 struct file {
@@ -40,6 +52,71 @@ void copy_file(const struct file *file, const char *suffix, char *path, size_t r
 
 /* Removes a file and gives its memory back. */
 void free_file(struct file *file);
+
+/* ---- Bytes of an image (bytes.c) ---- */
+
+/* A file in memory alone. */
+struct image {
+    uint8_t *bytes;
+    size_t length;
+};
+
+/* In bytes: the front of a file, the front of a block, a slot. */
+enum { FRONT = 4, BLOCK_FRONT = 6, SLOT = 12 };
+
+/* Gives memory for an image, with the front of a file in it. */
+struct image new_image(int length);
+
+/* Gives an image's memory back. */
+void free_image(struct image *image);
+
+/* Write a number, its highest byte first. */
+void put_16(uint8_t *at, int number);
+void put_32(uint8_t *at, int number);
+
+/* Writes the front of a block: how many slots it has, and the place of the next block, 0 in the last one. */
+void put_block(uint8_t *block, int slots, int next);
+
+/* Writes a slot. */
+void put_slot(uint8_t *slot, int tag, int reference, int place, int length);
+
+/* ---- Images of the largest directory (images.c) ---- */
+
+/* Where the blocks stand in the file: each behind the one before it in the chain; from the last place down; or in no order.
+ * The first one stands first in all three. */
+enum chain { RISING, FALLING, SCRAMBLED, CHAINS };
+extern const char *const chain_names[CHAINS];
+
+/* Where the elements stand: behind the block of their own slot, or behind any. */
+enum spread { BEHIND_OWN, SCATTERED, SPREADS };
+extern const char *const spread_names[SPREADS];
+
+/* Makes an image of 256 blocks of 16 slots, all live, with references that ascend along the chain. */
+struct image make_image(enum chain chain, enum spread spread);
+
+/* ---- Images of an element in linked blocks (linked.c) ---- */
+
+/* The references of tables and blocks: 1, 2, 3 and so on, a table before its blocks, as a library hands them out that appends;
+ * or 1, 252, 503 and so on for the tables, and the lowest free ones for the blocks. The library marks a table that it has read
+ * by its reference modulo 251, and searches the earlier ones for a table whose mark is set. */
+enum numbering { APPENDED, EQUAL_MODULO, NUMBERINGS };
+extern const char *const numbering_names[NUMBERINGS];
+
+/* How many tables an element has, how many blocks each of them names, and the references of both. */
+struct links {
+    enum numbering numbering;
+    int tables, per_table;
+};
+
+/* How many blocks there are in all. Each has ELEMENT_BYTES. */
+int blocks_of(const struct links *links);
+
+/* Makes an image of one element in linked blocks, with TAG and FIRST_REFERENCE. Its slot is the first one; those of the tables
+ * and blocks follow, the lowest reference first. All are in one block of the directory. */
+struct image make_linked(const struct links *links);
+
+/* Writes what so many blocks of that element hold, from one of them on. */
+void put_contents(uint8_t *at, int block, int count);
 
 /* ---- Times (times.c) ---- */
 

@@ -14,6 +14,7 @@
 enum { ROOM = 4096 }; /* for an edit */
 
 const char *const order_names[ORDERS] = {"ascending", "shuffled", "descending"};
+const struct size sizes[SIZES] = {{16, 16}, {100, 20}, {500, 20}, {1000, 20}, {2000, 20}, {4096, 16}};
 
 static void swap(uint16_t *a, uint16_t *b)
 {
@@ -22,16 +23,22 @@ static void swap(uint16_t *a, uint16_t *b)
     *b = kept;
 }
 
-/* The references in the order in which they are written. The shuffle is the same in every run. */
-static void fill_references(uint16_t *references, int count, enum order order)
+void shuffle(uint16_t *numbers, int count)
 {
     uint64_t state = 19930401;
+    for (int i = count - 1; i > 0; i--) {
+        state = state * 6364136223846793005u + 1442695040888963407u;
+        swap(&numbers[i], &numbers[(state >> 33) % (uint64_t)(i + 1)]);
+    }
+}
+
+/* The references in the order in which they are written. */
+static void fill_references(uint16_t *references, int count, enum order order)
+{
     for (int i = 0; i < count; i++)
         references[i] = (uint16_t)(FIRST_REFERENCE + (order == DESCENDING ? count - 1 - i : i));
-    for (int i = count - 1; order == SHUFFLED && i > 0; i--) {
-        state = state * 6364136223846793005u + 1442695040888963407u;
-        swap(&references[i], &references[(state >> 33) % (uint64_t)(i + 1)]);
-    }
+    if (order == SHUFFLED)
+        shuffle(references, count);
 }
 
 /* Opens a file that is there now with our library, and keeps its bytes. */
