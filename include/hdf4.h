@@ -5,6 +5,9 @@
  * also with length 0. Nothing is written where a call is refused.
  *
  * The numbers of refusals are named below. A place counts bytes from the start of the image.
+ *
+ * No function allocates memory or keeps anything between calls. On x86-64 none keeps more than 1,024 bytes of stack, but for
+ * hdf4_list_group, which says below what it keeps.
  */
 #ifndef HDF4_H
 #define HDF4_H
@@ -241,7 +244,8 @@ hdf4_pack_answer hdf4_pack_vdata(uint16_t interlace, uint32_t records, uint16_t 
 hdf4_value_answer hdf4_read_value(const uint8_t *image, size_t n, uint16_t ref, uint64_t record, uint64_t field, uint64_t component);
 
 /* Lists the members of a Vgroup in order, each member of tag 1965 followed by its own members: tag and reference of each. There are at most
- * 4,096 pairs, and at most 16 groups nested, the named one included. */
+ * 4,096 pairs, and at most 16 groups nested, the named one included. It keeps 576 bytes of stack, or 264 and 352 for each group nested where
+ * that is more: 5,896 at the most. */
 hdf4_group_list_answer hdf4_list_group(const uint8_t *image, size_t n, uint16_t ref, uint16_t *list, size_t room);
 
 #ifdef __cplusplus

@@ -1,6 +1,7 @@
 //! The marked cases of the written rules. In cases 1 to 11 both the library and the reader must give the numbers written
 //! there.
 
+pub mod chains;
 pub mod changes;
 pub mod edits;
 mod pieces;

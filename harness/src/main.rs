@@ -145,6 +145,7 @@ fn run_all(options: &Options, random: &mut Random, tally: &mut Tally) -> Result<
     }
     println!("{} marked cases", cases.len() + cases::edits::check(tally)?);
     println!("{} cases of replacing, removing and empty data", cases::changes::check(tally)?);
+    println!("{} files of blocks in every order", cases::chains::check_all(random)?);
     println!("{} records with known numbers", cases::records::check(random, tally)?);
     let [refusals, listed] = cases::refusals::check()?;
     println!("{refusals} named cases of refusals, for {listed} rules alone or two at once");

@@ -254,13 +254,6 @@ walk-judged s (suc k) before at few l h =
 chain-judged : (s : List ℕ) → ((bs : List ℕ) × WholeChain s bs) ⊎ ((n : ℕ) × (p : ℕ) × AtBlock s n p)
 chain-judged s = walk-judged s 256 [] 4 refl refl (none-yet (BlockHolds s))
 
-pub walked-whole : (s bs : List ℕ) → chain s ≡ walked bs → WholeChain s bs
-walked-whole s bs e =
-    elim (chain-judged s) [
-      | inl w ↦ let c = whole-walked s (w .0) (w .1) in let q : w .0 ≡ bs = cc in rw q at (w .1)
-      | inr a ↦ let c = block-refused s (a .0) (a .1) (a .2) in let z : _≡_ {A = ℕ} 0 1 = cc in absurd (omega arith)
-    ]
-
 -- ---- The slots
 
 -- slots that keep the rules are passed, and the live ones counted

@@ -1,51 +1,33 @@
--- Following the links between blocks: their slots, the blocks one by one, and the last one. Assumes nothing.
-use Prim.Native.Nat.{ℕ, suc, _+_, _-_, _<_, _≤_}
+-- Blocks followed by their links, each from the one before it in the image: their slots, the last one, and a search. Assumes nothing.
+use Prim.Native.Nat.{ℕ, zero, suc, _+_, _-_, _<_, _≤_}
 use native.Mathlib.Omega.{arith}
-use mathlib.Core.Path.{_≡_, refl, ap, _∙_}
+use mathlib.Core.Path.{_≡_, refl, sym, ap, _∙_}
 use mathlib.Core.List.{List, [], _∷_, _++_}
+use mathlib.Core.Bool.{Bool, true, false}
 use lib.ListN.{length, getD}
+use Rattle.answer.specs.Search.{any}
+use Rattle.answer.specs.Links.{linkAfter, linksAfter}
 use Rattle.directory.specs.Blocks.{slotCount, nextBlock}
 use Rattle.directory.specs.Slots.{rows, slotPlaces}
 use Rattle.directory.specs.Links.{slotsAfter, lastOf, blockAfter, blocksAfter}
 use Rattle.directory.specs.Rules.{Linked}
+use Rattle.answer.proofs.Links.{along-none, along-end, along-hit, along-next}
 
--- ---- One link further
-
-pub block-step : (s : List ℕ) (k b : ℕ) → (k ≡ 0 → ⊥) → blockAfter s k b ≡ blockAfter s (k - 1) (nextBlock s b)
-unfolding blockAfter
-block-step s k b h = let e : k ≡ suc (k - 1) = omega arith in ap (λ n. blockAfter s n b) e
-
-pub block-none : (s : List ℕ) (k b : ℕ) → k ≡ 0 → blockAfter s k b ≡ b
-unfolding blockAfter
-block-none s k b e = ap (λ n. blockAfter s n b) e
-
-pub blocks-step : (s : List ℕ) (k b : ℕ) → 0 < k → blocksAfter s k b ≡ b ∷ blocksAfter s (k - 1) (nextBlock s b)
-unfolding blocksAfter
-blocks-step s k b h = let e : k ≡ suc (k - 1) = omega arith in ap (λ n. blocksAfter s n b) e
-
-pub blocks-none : (s : List ℕ) (k b : ℕ) → k ≤ 0 → blocksAfter s k b ≡ []
-unfolding blocksAfter
-blocks-none s k b h = let e : k ≡ 0 = omega arith in ap (λ n. blocksAfter s n b) e
+-- the slots of the blocks
+pub slots-along : (s : List ℕ) (k b : ℕ) → slotPlaces s (blocksAfter s k b) ≡ slotsAfter s k b
+unfolding linksAfter slotsAfter slotPlaces
+slots-along s zero b = refl
+slots-along s (suc k) b = ap (λ l. rows (b + 6) (slotCount s b) ++ l) (slots-along s k (nextBlock s b))
 
 -- ---- A chain that ends
 
-linked-places : (s : List ℕ) (b : ℕ) (bs : List ℕ) → Linked s (b ∷ bs) → slotsAfter s (suc (length bs)) b ≡ slotPlaces s (b ∷ bs)
-unfolding slotsAfter slotPlaces
-linked-places s b [] h = refl
-linked-places s b (c ∷ bs) h = ap (λ l. rows (b + 6) (slotCount s b) ++ l) (rw (h .0) (linked-places s c bs (h .1)))
-
--- blocks followed by their links, from the first one on, have the slots of their places
-pub linked-slots : (s bs : List ℕ) → getD bs 0 0 ≡ 4 → Linked s bs → slotsAfter s (length bs) 4 ≡ slotPlaces s bs
-linked-slots s [] f h = absurd h
-linked-slots s (b ∷ bs) f h = rw (← f) (linked-places s b bs h)
-
 linked-blocks : (s : List ℕ) (b : ℕ) (bs : List ℕ) → Linked s (b ∷ bs) → blocksAfter s (suc (length bs)) b ≡ b ∷ bs
-unfolding blocksAfter
+unfolding linksAfter
 linked-blocks s b [] h = refl
 linked-blocks s b (c ∷ bs) h = ap (λ l. b ∷ l) (rw (h .0) (linked-blocks s c bs (h .1)))
 
 linked-last : (s : List ℕ) (b : ℕ) (bs : List ℕ) → Linked s (b ∷ bs) → blockAfter s (length bs) b ≡ lastOf b bs
-unfolding blockAfter lastOf
+unfolding linkAfter lastOf
 linked-last s b [] h = refl
 linked-last s b (c ∷ bs) h = ap (λ x. blockAfter s (length bs) x) (h .0) ∙ linked-last s c bs (h .1)
 
@@ -56,3 +38,29 @@ linked-chain s [] f h = absurd h
 linked-chain s (b ∷ bs) f h =
     let n : suc (length bs) - 1 ≡ length bs = omega arith in
     (rw (← f) (linked-blocks s b bs h), rw (← f, n) (linked-last s b bs h))
+
+-- ---- A search of the blocks
+
+-- what is still to be followed decides
+pub record Following (s : List ℕ) (f : ℕ → Bool) (blocks b left : ℕ) : Type 0 where
+  pub low : b < 4294967296
+  pub decides : any f (blocksAfter s left b) ≡ any f (blocksAfter s blocks 4)
+
+pub follow-all : (s : List ℕ) (f : ℕ → Bool) (blocks : ℕ) → Following s f blocks 4 blocks
+follow-all s f blocks = record { low = omega arith; decides = refl }
+
+module _ (s : List ℕ) (f : ℕ → Bool) (blocks b left : ℕ) (w : Following s f blocks b left) where
+  -- nothing more has to be followed, where the test fails of each block left
+  pub follow-none : ((i : ℕ) → i < left → f (blockAfter s i b) ≡ false) → (c : ℕ) → c < 4294967296 → Following s f blocks c 0
+  follow-none h c low =
+      record { low = low; decides = along-end (nextBlock s) f 0 c (omega arith) ∙ sym (along-none (nextBlock s) f left b h) ∙ w .decides }
+
+  pub follow-end : left ≤ 0 → any f (blocksAfter s blocks 4) ≡ false
+  follow-end h = sym (w .decides) ∙ along-end (nextBlock s) f left b h
+
+  module _ (more : 0 < left) where
+    pub follow-hit : f b ≡ true → any f (blocksAfter s blocks 4) ≡ true
+    follow-hit e = sym (w .decides) ∙ along-hit (nextBlock s) f left b more e
+
+    pub follow-next : f b ≡ false → nextBlock s b < 4294967296 → Following s f blocks (nextBlock s b) (left - 1)
+    follow-next e low = record { low = low; decides = sym (along-next (nextBlock s) f left b more e) ∙ w .decides }

@@ -14,16 +14,16 @@ use Rattle.answer.specs.declared.Refusal.{Refusal}
 use Rattle.answer.proofs.Tests.{zero?}
 use Rattle.answer.proofs.Answer.{unless-passes, unless-stops, unless-passed, refusal-is, refusal-number, refusal-told}
 use Rattle.directory.specs.Blocks.{blocksOf}
-use Rattle.directory.specs.Slots.{slotsOf}
+use Rattle.directory.specs.Slots.{slotPlaces, slotsOf}
 use Rattle.directory.specs.Opening.{openedNumbers, refusalOf, openOf, opened}
-use Rattle.directory.specs.Links.{lastOf, blockAfter}
+use Rattle.directory.specs.Links.{lastOf, blockAfter, blocksAfter}
 use Rattle.directory.specs.Lookup.{has, find, findIn}
 use Rattle.directory.specs.Rules.{Linked}
 use Rattle.directory.specs.Steps.Opens.{Opens}
 use Rattle.directory.specs.declared.Counts.{Counts}
 use Rattle.directory.specs.declared.Opened.{Opened}
 use Rattle.directory.specs.declared.Opened.the-variants.{Accepted, Refused}
-use Rattle.directory.proofs.Links.{linked-slots, linked-chain}
+use Rattle.directory.proofs.Links.{slots-along, linked-chain}
 use Rattle.directory.proofs.Rules.{kept-opens, opens-kept}
 
 -- a call goes on exactly with an image that opens
@@ -68,17 +68,19 @@ module _ (s : List ℕ) (b n l : ℕ) (e : openOf s ≡ grant (b ∷ n ∷ l ∷
   counted : b ≡ length (blocksOf s)
   counted = ap (λ a. getD (a .values) 0 0) (sym e ∙ kept-opens s (blocksOf s) (opens-kept s (ap (λ a. a .number) e)))
 
+  opened-chain : (blocksAfter s b 4 ≡ blocksOf s) × (blockAfter s (b - 1) 4 ≡ lastOf 4 (blocksOf s))
+  opened-chain = let k = opens-kept s (ap (λ a. a .number) e) in rw counted (linked-chain s (blocksOf s) (k .first) (k .linked))
+
   pub opened-last : blockAfter s (b - 1) 4 ≡ lastOf 4 (blocksOf s)
-  opened-last = let k = opens-kept s (ap (λ a. a .number) e) in rw counted (linked-chain s (blocksOf s) (k .first) (k .linked) .1)
+  opened-last = opened-chain .1
 
   pub opened-with : Opens s b
   unfolding slotsOf
   opened-with =
-      let k = opens-kept s (ap (λ a. a .number) e) in
       record {
         sound = ap (λ a. a .number) e;
-        slots = rw counted (linked-slots s (blocksOf s) (k .first) (k .linked));
-        chain = rw counted (linked-chain s (blocksOf s) (k .first) (k .linked) .0);
+        slots = sym (slots-along s b 4) ∙ ap (slotPlaces s) (opened-chain .0);
+        chain = opened-chain .0;
       }
 
 -- the lookup among them is the image's

@@ -1,6 +1,6 @@
 -- What the functions behind the calls take and leave: no reader of the calls has to believe it. Assumes nothing.
 pub mod Cursors
-pub mod Places
+pub mod Chains
 pub mod Gaps
 pub mod References
 pub mod Opens

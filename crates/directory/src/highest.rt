@@ -4,8 +4,7 @@ use super::format::LONE;
 use super::slot;
 ghost use mathlib.Core.Path.{_≡_};
 ghost use Prim.Native.Nat.{_≤_};
-ghost use Rattle.directory.specs.Steps.Cursors.{Stands, most-place};
-ghost use Rattle.directory.specs.Links.{slotsAfter};
+ghost use Rattle.directory.specs.Steps.Cursors.{most-place, Started};
 ghost use Rattle.directory.specs.Steps.References.{Raised, Begins};
 
 // The highest reference of the live slots so far, and the first slot that has it: its index, and a cursor at it.
@@ -19,7 +18,7 @@ pub struct Highest {
 impl Highest {
     // Before the first slot of a chain of so many blocks.
     pub(crate) fn start(image: &[u8], blocks: usize) -> Highest
-        ensures { λ r. ⌜ (r .index ≡ 0) × Stands (now (image .entry)) (r .at) (slotsAfter (now (image .entry)) blocks 4) ⌝ }
+        ensures { λ r. ⌜ (r .index ≡ 0) × Started (now (image .entry)) blocks (r .at) ⌝ }
     {
         let at = Cursor::start(image, blocks);
         Highest {

@@ -23,12 +23,11 @@ use highest::Highest;
 ghost use mathlib.Core.Path.{_≡_};
 ghost use mathlib.Core.Bool.{true};
 ghost use mathlib.Core.List.{[]};
-ghost use Prim.Native.Nat.{_≤_};
-ghost use lib.ListN.{length, take};
+ghost use lib.ListN.{length};
 ghost use Rattle.directory.specs.Opening.{openedNumbers, refusalOf, headed, slotsFrom, openOf};
 ghost use Rattle.directory.specs.Lookup.{foundNumbers, hitFound, findIn, findOf};
-ghost use Rattle.directory.specs.Slots.{slotPlaces};
-ghost use Rattle.directory.specs.Steps.Places.{Blocks, Follows, Rising};
+ghost use Rattle.directory.specs.Links.{slotsAfter, blocksAfter};
+ghost use Rattle.directory.specs.Steps.Chains.{Rising};
 
 // How many blocks and slots the chain has, and how many of the slots are live.
 pub struct Counts {
@@ -58,17 +57,10 @@ fn is_hdf(image: &[u8]) -> bool
 }
 
 // The rules of all slots, in chain order, and how many are live. Earlier slots and blocks that cannot matter are not searched.
-fn check_slots(
-    image: &[u8],
-    places: &[usize; 256],
-    blocks: usize,
-    slots: usize,
-    rising: bool,
-) -> Opened
-    requires { ⌜ Blocks (now image) (now places) blocks × Follows (now image) (take blocks (now places)) blocks slots
-        × (rising ≡ true → Rising (now image) (now places) blocks) ⌝ }
-    ensures { λ r. ⌜ (let s = now (image .entry) in let bs = take blocks (now (places .entry)) in
-        openedNumbers r ≡ slotsFrom s bs [] (slotPlaces s bs) 0) ⌝ }
+fn check_slots(image: &[u8], blocks: usize, slots: usize, rising: bool) -> Opened
+    requires { ⌜ (length (slotsAfter (now image) blocks 4) ≡ slots) × (rising ≡ true → Rising (now image) blocks) ⌝ }
+    ensures { λ r. ⌜ (let s = now (image .entry) in
+        openedNumbers r ≡ slotsFrom s (blocksAfter s blocks 4) [] (slotsAfter s blocks 4) 0) ⌝ }
 {
     let all = Highest::start(image, blocks);
     let mut highest = all;
@@ -86,7 +78,7 @@ fn check_slots(
         }
         let p = at.place;
         if wire::read16(image, p) != FREE {
-            let judged = slot::element_fault(image, places, blocks, rising, gap, at);
+            let judged = slot::element_fault(image, blocks, rising, gap, at);
             let number = judged.rule;
             if number != 0 {
                 break 'slots Opened::Refused(Refusal { number, place: p });
@@ -129,15 +121,14 @@ pub fn open(image: &[u8]) -> Opened
             place: 0,
         });
     }
-    let mut places = [0; 256];
-    let walked = chain::walk(image, &mut places);
+    let walked = chain::walk(image);
     match walked {
         Walked::Broken(fault) => Opened::Refused(fault),
         Walked::Whole {
             blocks,
             slots,
             rising,
-        } => check_slots(image, &places, blocks, slots, rising),
+        } => check_slots(image, blocks, slots, rising),
     }
 }
 

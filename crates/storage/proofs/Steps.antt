@@ -1,17 +1,25 @@
 -- What the loops over the blocks of a table and over the tables keep: what is left of the walk is what the walk comes to. Assumes nothing.
-use Prim.Native.Nat.{ℕ, suc, _+_, _*_, _-_, _<_, _≤_}
-use native.Mathlib.Nat.{add-zero}
+use Prim.Native.Nat.{ℕ, suc, _+_, _*_, _%_, _-_, _<_, _≤_}
+use native.Mathlib.Nat.{add-zero, not-suc-le-zero}
 use native.Mathlib.Omega.{arith}
-use native.Mathlib.Numerals.{add-one}
 use mathlib.Core.Path.{_≡_, refl, sym, ap, _∙_}
 use mathlib.Core.List.{List, [], _∷_, _++_}
-use lib.ListN.{length, take, set, length-set}
-use lib.Seq.{take-suc-set}
+use mathlib.Core.Bool.{Bool, true, false, false≢true}
+use mathlib.Core.Logic.{inl, inr}
+use lib.Dec.{eqb}
+use lib.ListN.{length, getD, set, length-set}
+use lib.Seq.{getD-set-same, getD-set-other}
+use borrow.Author.Count.{below-more}
+use borrow.Author.Tests.{ne-eqb}
+use Rattle.answer.specs.Search.{any}
+use Rattle.answer.specs.Links.{linkAfter, linksAfter}
+use Rattle.answer.proofs.Tests.{same?}
+use Rattle.answer.proofs.Links.{link-next, links-snoc, along-none}
 use Rattle.wire.specs.Numbers.{part, put}
 use Rattle.wire.proofs.Numbers.{put-put, length-put, length-part}
 use Rattle.storage.specs.Tables.{linkedBytes, nextTable, blockRef, tableFault, linkedFault}
 use Rattle.storage.specs.Walks.{share, Walk, stop, joined, andThen, blocksFrom, tablesFrom, chainOf}
-use Rattle.storage.specs.Steps.{Took, Followed}
+use Rattle.storage.specs.Steps.{nextOf, tableAfter, tablesAfter, Marked, Took, Followed}
 use Rattle.storage.specs.declared.linked.Description.{Description}
 use Rattle.storage.proofs.Tables.{There, block-none, block-gives}
 use Rattle.storage.proofs.Walks.{share-less, blocks-none, blocks-full, blocks-fault, blocks-next, blocks-total, then-stops, then-goes, tables-full, tables-many, tables-fault, tables-next}
@@ -100,23 +108,46 @@ module _ (s : List ℕ) (d : Description) (t : List ℕ) (first missing : ℕ) (
 
 -- ---- The tables of a chain
 
+-- one table more has set its mark
+marked-more : (s : List ℕ) (first count : ℕ) (marks : List Bool) → Marked s first count marks → (ref : ℕ) → tableAfter s count first ≡ ref
+    → Marked s first (count + 1) (set marks (ref % 251) true)
+marked-more s first count marks w ref e =
+    let own : getD (set marks (ref % 251) true) (ref % 251) false ≡ true = getD-set-same marks (ref % 251) true false (omega (arith, w .long)) in
+    record {
+      long = length-set marks (ref % 251) true ∙ w .long;
+      set = below-more (λ i. getD (set marks (ref % 251) true) (tableAfter s i first % 251) false ≡ true) count
+          (λ i k. elim (same? (tableAfter s i first % 251) (ref % 251)) [
+            | inl q ↦ rw q own
+            | inr other ↦ getD-set-other marks (ref % 251) (tableAfter s i first % 251) true false other ∙ w .set i k
+          ])
+          (rw e own);
+    }
+
+-- a table whose mark is not set is none of those walked
+pub unmarked : (s : List ℕ) (first count : ℕ) (marks : List Bool) → Marked s first count marks → (ref : ℕ) → getD marks (ref % 251) false ≡ false
+    → any (eqb ref) (tablesAfter s count first) ≡ false
+unmarked s first count marks w ref e =
+    along-none (nextOf s) (eqb ref) count first (λ i k. ne-eqb ref (tableAfter s i first) (λ q. false≢true (sym e ∙ rw q (w .set i k))))
+
 -- after some tables: what is left of the walk is what the walk comes to
-pub record Following (s : List ℕ) (d : Description) (out₀ tables : List ℕ) (count ref index left : ℕ) (out : List ℕ) : Type 0 where
+pub record Following (s : List ℕ) (d : Description) (out₀ : List ℕ) (marks : List Bool) (count ref index left : ℕ) (out : List ℕ) : Type 0 where
   pub few : count ≤ 256
-  pub kept : length tables ≡ 256
+  pub marked : Marked s (d .table) count marks
+  pub here : tableAfter s count (d .table) ≡ ref
   pub low : index ≤ count * 4294967296
   pub less : left ≤ d .length
   pub long : length out ≡ length out₀
-  pub fault : tablesFrom s d (256 - count) (take count tables) ref index left .fault ≡ chainOf s d .fault
-  pub bytes : put out (d .length - left) (tablesFrom s d (256 - count) (take count tables) ref index left .bytes) ≡ put out₀ 0 (chainOf s d .bytes)
+  pub fault : tablesFrom s d (256 - count) (tablesAfter s count (d .table)) ref index left .fault ≡ chainOf s d .fault
+  pub bytes : put out (d .length - left) (tablesFrom s d (256 - count) (tablesAfter s count (d .table)) ref index left .bytes) ≡ put out₀ 0 (chainOf s d .bytes)
 
-pub following-start : (s : List ℕ) (d : Description) (tables out : List ℕ) → length tables ≡ 256 → Following s d out tables 0 (d .table) 0 (d .length) out
-unfolding chainOf
-following-start s d tables out h =
+pub following-start : (s : List ℕ) (d : Description) (marks : List Bool) (out : List ℕ) → length marks ≡ 251 → Following s d out marks 0 (d .table) 0 (d .length) out
+unfolding chainOf linkAfter linksAfter
+following-start s d marks out h =
     let z : d .length - d .length ≡ 0 = omega arith in
     record {
       few = omega arith;
-      kept = h;
+      marked = record { long = h; set = λ i k. absurd (not-suc-le-zero k) };
+      here = refl;
       low = omega arith;
       less = omega arith;
       long = refl;
@@ -124,9 +155,9 @@ following-start s d tables out h =
       bytes = ap (λ a. put out a (chainOf s d .bytes)) z;
     }
 
-module _ (s : List ℕ) (d : Description) (out₀ tables : List ℕ) (count ref index left : ℕ) (out : List ℕ) (w : Following s d out₀ tables count ref index left out) where
+module _ (s : List ℕ) (d : Description) (out₀ : List ℕ) (marks : List Bool) (count ref index left : ℕ) (out : List ℕ) (w : Following s d out₀ marks count ref index left out) where
   -- where the walk stops
-  ended : (f : ℕ) → tablesFrom s d (256 - count) (take count tables) ref index left ≡ stop f left → Followed (chainOf s d) out₀ out f
+  ended : (f : ℕ) → tablesFrom s d (256 - count) (tablesAfter s count (d .table)) ref index left ≡ stop f left → Followed (chainOf s d) out₀ out f
   ended f e =
       record {
         fault = ap (λ v. v .fault) (sym e) ∙ w .fault;
@@ -134,34 +165,34 @@ module _ (s : List ℕ) (d : Description) (out₀ tables : List ℕ) (count ref 
       }
 
   pub followed-all : left ≡ 0 → Followed (chainOf s d) out₀ out 0
-  followed-all z = ended 0 (tables-full s d (take count tables) ref index left (256 - count) z)
+  followed-all z = ended 0 (tables-full s d (tablesAfter s count (d .table)) ref index left (256 - count) z)
 
   module _ (missed : left ≡ 0 → ⊥) where
     pub followed-many : count ≡ 256 → Followed (chainOf s d) out₀ out 13
     followed-many e =
         let z : 256 - count ≡ 0 = omega arith in
-        ended 13 (ap (λ k. tablesFrom s d k (take count tables) ref index left) z ∙ tables-many s d (take count tables) ref index left missed)
+        ended 13 (ap (λ k. tablesFrom s d k (tablesAfter s count (d .table)) ref index left) z ∙ tables-many s d (tablesAfter s count (d .table)) ref index left missed)
 
     module _ (more : count < 256) where
       fuel-left : 256 - count ≡ suc (256 - (count + 1))
       fuel-left = omega arith
 
-      pub followed-fault : tableFault s d (take count tables) ref ≡ 13 → Followed (chainOf s d) out₀ out 13
+      pub followed-fault : tableFault s d (tablesAfter s count (d .table)) ref ≡ 13 → Followed (chainOf s d) out₀ out 13
       followed-fault h =
-          ended 13 (ap (λ k. tablesFrom s d k (take count tables) ref index left) fuel-left
-          ∙ tables-fault s d (take count tables) ref index left missed (256 - (count + 1)) 12 h)
+          ended 13 (ap (λ k. tablesFrom s d k (tablesAfter s count (d .table)) ref index left) fuel-left
+          ∙ tables-fault s d (tablesAfter s count (d .table)) ref index left missed (256 - (count + 1)) 12 h)
 
       -- a table without fault: what its blocks come to, and what is left of the walk after it
-      module _ (good : tableFault s d (take count tables) ref ≡ 0) (after : List ℕ) (n f : ℕ)
+      module _ (good : tableFault s d (tablesAfter s count (d .table)) ref ≡ 0) (after : List ℕ) (n f : ℕ)
           (took : Took (blocksFrom s d (linkedBytes s ref) (d .entries) 0 index left) (d .length - left) out after (record { left = n; fault = f })) where
         onward : Walk
-        onward = tablesFrom s d (256 - (count + 1)) (take count tables ++ (ref ∷ [])) (nextTable (linkedBytes s ref)) (index + d .entries) (blocksFrom s d (linkedBytes s ref) (d .entries) 0 index left .left)
+        onward = tablesFrom s d (256 - (count + 1)) (tablesAfter s count (d .table) ++ (ref ∷ [])) (nextTable (linkedBytes s ref)) (index + d .entries) (blocksFrom s d (linkedBytes s ref) (d .entries) 0 index left .left)
 
-        here : tablesFrom s d (256 - count) (take count tables) ref index left ≡ andThen (blocksFrom s d (linkedBytes s ref) (d .entries) 0 index left) onward
+        here : tablesFrom s d (256 - count) (tablesAfter s count (d .table)) ref index left ≡ andThen (blocksFrom s d (linkedBytes s ref) (d .entries) 0 index left) onward
         unfolding onward
         here =
-            ap (λ k. tablesFrom s d k (take count tables) ref index left) fuel-left
-            ∙ tables-next s d (take count tables) ref index left missed (256 - (count + 1)) good
+            ap (λ k. tablesFrom s d k (tablesAfter s count (d .table)) ref index left) fuel-left
+            ∙ tables-next s d (tablesAfter s count (d .table)) ref index left missed (256 - (count + 1)) good
 
         pub followed-broken : (f ≡ 0 → ⊥) → Followed (chainOf s d) out₀ after f
         followed-broken z =
@@ -173,18 +204,19 @@ module _ (s : List ℕ) (d : Description) (out₀ tables : List ℕ) (count ref 
             }
 
         pub following-next : f ≡ 0 → d .entries < 4294967296
-            → Following s d out₀ (set tables count ref) (count + 1) (nextTable (linkedBytes s ref)) (index + d .entries) n after
+            → Following s d out₀ (set marks (ref % 251) true) (count + 1) (nextTable (linkedBytes s ref)) (index + d .entries) n after
         unfolding onward
         following-next z small =
             let v = blocksFrom s d (linkedBytes s ref) (d .entries) 0 index left in
             let e = here ∙ then-goes v onward (sym (took .fault) ∙ z) in
-            let kept : take (count + 1) (set tables count ref) ≡ take count tables ++ (ref ∷ []) = rw (add-one, take-suc-set tables count ref (omega (arith, w .kept))) in
-            let q : tablesFrom s d (256 - (count + 1)) (take (count + 1) (set tables count ref)) (nextTable (linkedBytes s ref)) (index + d .entries) n ≡ onward = rw (kept, took .left) in
+            let kept : tablesAfter s (count + 1) (d .table) ≡ tablesAfter s count (d .table) ++ (ref ∷ []) = links-snoc (nextOf s) count (d .table) ∙ ap (λ r. tablesAfter s count (d .table) ++ (r ∷ [])) (w .here) in
+            let q : tablesFrom s d (256 - (count + 1)) (tablesAfter s (count + 1) (d .table)) (nextTable (linkedBytes s ref)) (index + d .entries) n ≡ onward = rw (kept, took .left) in
             let total = blocks-total s d (linkedBytes s ref) (d .entries) 0 index left in
             let at : d .length - n ≡ d .length - left + length (v .bytes) = omega (arith, w .less, took .left) in
             record {
               few = omega arith;
-              kept = length-set tables count ref ∙ w .kept;
+              marked = marked-more s (d .table) count marks (w .marked) ref (w .here);
+              here = link-next (nextOf s) count (d .table) ∙ ap (nextOf s) (w .here);
               low = omega (arith, w .low);
               less = omega (arith, w .less, took .left);
               long = ap length (took .leaves) ∙ length-put out (d .length - left) (v .bytes) ∙ w .long;

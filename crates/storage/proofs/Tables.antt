@@ -13,14 +13,14 @@ use Rattle.answer.specs.Search.{any}
 use Rattle.answer.specs.declared.Refusal.{Refusal}
 use Rattle.answer.proofs.Tests.{same?}
 use Rattle.answer.proofs.Search.{must-holds, must-fails}
-use Rattle.wire.specs.Numbers.{part}
+use Rattle.wire.specs.Numbers.{be, part}
 use Rattle.directory.specs.Opening.{openOf}
 use Rattle.directory.specs.Lookup.{find, findIn}
 use Rattle.directory.specs.Steps.Opens.{Opens}
 use Rattle.directory.proofs.Opens.{opened-find}
 use Rattle.storage.specs.Limits.{linked-tag}
 use Rattle.storage.specs.Elements.{plainOnly, locatedAt, bytesAt}
-use Rattle.storage.specs.Tables.{linkedAt, isThere, linkedBytes, tableFault, linkedFault, blockBytes}
+use Rattle.storage.specs.Tables.{linkedAt, isThere, linkedBytes, nextTable, tableFault, linkedFault, blockBytes}
 use Rattle.storage.specs.declared.element.Element.the-variants.{Absent}
 use Rattle.storage.specs.declared.element.Located.{Located}
 use Rattle.storage.specs.declared.element.Located.the-variants.{Plain, Refused}
@@ -64,6 +64,11 @@ linked-there s ref p offset size sound r is e = go (sym is ∙ e)
 
 pub linked-nothing : (s : List ℕ) (ref : ℕ) (r : Located) → r ≡ linkedAt s ref → (x : Refusal) → r ≡ Refused x → isThere (linkedAt s ref) ≡ false
 linked-nothing s ref r is x e = ap isThere (sym is ∙ e)
+
+-- a table that is not there names none
+pub names-none : (s : List ℕ) (ref : ℕ) (r : Located) → r ≡ linkedAt s ref → (x : Refusal) → r ≡ Refused x → nextTable (linkedBytes s ref) ≡ 0
+unfolding linkedBytes be
+names-none s ref r is x e = ap (λ l. nextTable (bytesAt s l)) (sym is ∙ e)
 
 -- ---- The rules of a block
 

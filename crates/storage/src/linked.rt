@@ -11,15 +11,17 @@ use super::format::RECORD_BYTES;
 use answer::refusals::CHAIN;
 use answer::refusals::STORAGE;
 ghost use mathlib.Core.Path.{_≡_};
-ghost use Prim.Native.Nat.{_-_, _≤_};
+ghost use Prim.Native.Nat.{_-_, _%_};
 ghost use lib.Dec.{eqb};
-ghost use lib.ListN.{length, take};
 ghost use Rattle.answer.specs.Search.{any};
 ghost use Rattle.storage.specs.Descriptions.{recordFault};
 ghost use Rattle.storage.specs.Tables.{linkedAt};
 ghost use Rattle.storage.specs.Walks.{share, blocksFrom, chainOf};
 ghost use Rattle.directory.specs.Steps.Opens.{Opens};
-ghost use Rattle.storage.specs.Steps.{InRange, Describes, Reached, Took, Followed};
+ghost use Rattle.storage.specs.Steps.{InRange, Describes, nextOf, tablesAfter, Marked, Reached, Took, Followed};
+
+// How many marks the tables of a chain share. A prime, so that references that ascend by the same step have marks of their own.
+const MARKS: usize = 251;
 
 // The fields of a record: how many bytes the element has, its first block (first_len) and each later one (blk_len), how many blocks a
 // table has (num_blk), and the reference of the first table (link_ref).
@@ -96,17 +98,61 @@ fn share_of(d: Description, index: usize, left: usize) -> usize
     wire::least(d.block, left)
 }
 
-// Whether one of the first tables has a reference.
-fn seen(tables: &[u16; 256], count: usize, reference: u16) -> bool
-    requires { ⌜ (length (now tables) ≡ 256) × (count ≤ 256) ⌝ }
-    ensures { λ r. ⌜ r ≡ any (eqb reference) (take count (now (tables .entry))) ⌝ }
+// The reference that the table with a reference names next, 0 where that table is not there.
+fn next_table(image: &[u8], blocks: usize, reference: u16) -> u16
+    requires { ⌜ Opens (now image) blocks ⌝ }
+    ensures { λ r. ⌜ r ≡ nextOf (now (image .entry)) reference ⌝ }
 {
-    let mut i = 0;
-    while i < count {
-        if reference == tables[i] {
+    let Located::Plain {
+        slot: _,
+        offset,
+        length,
+    } = find_linked(image, blocks, reference)
+    else {
+        return 0;
+    };
+    wire::read16(wire::part(image, offset, length), 0) as u16
+}
+
+// Whether one of so many tables, from the first one on, has a reference. Each is looked up again.
+fn among(image: &[u8], blocks: usize, first: u16, count: usize, reference: u16) -> bool
+    requires { ⌜ Opens (now image) blocks ⌝ }
+    ensures { λ r. ⌜ r ≡ any (eqb reference) (tablesAfter (now (image .entry)) count first) ⌝ }
+{
+    let mut table = first;
+    let mut left = count;
+    while 0 < left {
+        if reference == table {
             return true;
         }
-        i += 1;
+        table = next_table(image, blocks, table);
+        left -= 1;
+    }
+    false
+}
+
+// The mark of the table with a reference; tables may share one.
+fn mark_of(reference: u16) -> usize
+    ensures { λ r. ⌜ r ≡ reference % 251 ⌝ }
+{
+    reference as usize % MARKS
+}
+
+// Whether one of so many tables, from the first one on, has a reference. Each has set its mark, so that they are searched only where the
+// mark of the reference is set.
+fn seen(
+    image: &[u8],
+    blocks: usize,
+    first: u16,
+    marks: &[bool; 251],
+    count: usize,
+    reference: u16,
+) -> bool
+    requires { ⌜ Opens (now image) blocks × Marked (now image) first count (now marks) ⌝ }
+    ensures { λ r. ⌜ r ≡ any (eqb reference) (tablesAfter (now (image .entry)) count first) ⌝ }
+{
+    if marks[mark_of(reference)] {
+        return among(image, blocks, first, count, reference);
     }
     false
 }
@@ -157,8 +203,7 @@ pub(crate) fn follow(image: &[u8], blocks: usize, d: Description, out: &mut [u8]
     requires { ⌜ Opens (now image) blocks × InRange d ⌝ }
     ensures { λ r. ⌜ Followed (chainOf (now (image .entry)) d) (now (out .entry)) (now (out .exit)) r ⌝ }
 {
-    // The references of the tables walked so far.
-    let mut tables = [0u16; 256];
+    let mut marks = [false; 251];
     let mut count = 0;
     let mut reference = d.table;
     let mut index = 0;
@@ -167,7 +212,7 @@ pub(crate) fn follow(image: &[u8], blocks: usize, d: Description, out: &mut [u8]
         if count == MOST_TABLES {
             return CHAIN;
         }
-        if seen(&tables, count, reference) {
+        if seen(image, blocks, d.table, &marks, count, reference) {
             return CHAIN;
         }
         let Located::Plain {
@@ -186,7 +231,7 @@ pub(crate) fn follow(image: &[u8], blocks: usize, d: Description, out: &mut [u8]
         if taken.fault != 0 {
             return taken.fault;
         }
-        tables[count] = reference;
+        marks[mark_of(reference)] = true;
         count += 1;
         reference = wire::read16(table, 0) as u16;
         index += d.entries;

@@ -91,9 +91,10 @@ fn plan(random: &mut Random, shape: &Shape) -> Plan {
     }
 }
 
-/// Different references, none of them 0.
+/// Different references, none of them 0. At times they are equal modulo 251: the library's marks of tables do not tell those apart.
 fn references(random: &mut Random, count: usize) -> Vec<u16> {
-    let (start, step) = (random.u16(), random.u16() | 1);
+    let odd = random.u16() | 1;
+    let (start, step) = (random.u16(), if random.once_in(4) { 251 } else { odd });
     let all = (0..=u16::MAX).map(|index| start.wrapping_add(index.wrapping_mul(step)));
     all.filter(|reference| *reference != 0).take(count).collect()
 }

@@ -4,13 +4,13 @@ use native.Mathlib.Omega.{arith}
 use mathlib.Core.Path.{_≡_, sym, ap, _∙_}
 use mathlib.Core.Bool.{false}
 use lib.Dec.{eqb}
-use lib.ListN.{length, take}
+use lib.ListN.{length}
 use Rattle.answer.specs.Search.{any}
 use Rattle.wire.specs.Numbers.{be}
 use Rattle.wire.proofs.Numbers
 use Rattle.storage.specs.Tables.{linkedBytes, tableFault}
 use Rattle.storage.specs.Walks.{blocksFrom}
-use Rattle.storage.specs.Steps.{Took}
+use Rattle.storage.specs.Steps.{tablesAfter, Took}
 use Rattle.storage.proofs.Tables
 use Rattle.storage.proofs.Steps
 use borrow.Author.Needs.{needs}
@@ -18,11 +18,11 @@ use Rattle.storage.proofs.linked.follow.Statement.{statement}
 use Rattle.storage.proofs.linked.follow.Tie as tie
 
 abbrev Inv-loop : tie.InvT-loop
-Inv-loop image blocks d out₀ tables₀ count₀ reference₀ index₀ left₀ out tables count reference index left =
-    Steps.Following image d out₀ tables count reference index left out
+Inv-loop image blocks d out₀ marks₀ count₀ reference₀ index₀ left₀ out marks count reference index left =
+    Steps.Following image d out₀ marks count reference index left out
 
 abbrev μ-loop : tie.MeasureT-loop
-μ-loop image blocks d out₀ tables₀ count₀ reference₀ index₀ left₀ out tables count reference index left =
+μ-loop image blocks d out₀ marks₀ count₀ reference₀ index₀ left₀ out marks count reference index left =
     256 - count
 
 -- bytes are left, and a table may still be walked
@@ -33,7 +33,8 @@ more : (c : tie.Else1 Inv-loop μ-loop) → c .before .before .loop .count < 256
 more c = omega (arith, c .before .before .loop .inv .few, c .if1 .left)
 
 -- the table is none of those before
-fresh : (c : tie.Else2 Inv-loop μ-loop) → let l = c .before .before .before .before .before .loop in any (eqb (l .reference)) (take (l .count) (l .tables)) ≡ false
+fresh : (c : tie.Else2 Inv-loop μ-loop) → let l = c .before .before .before .before .before .loop in let a = c .before .before .before .before .before .before .before .before .args in
+    any (eqb (l .reference)) (tablesAfter (a .image .now) (l .count) (a .d .table)) ≡ false
 fresh c = sym (c .before .seen .ensures) ∙ c .if2 .left
 
 -- where it stands, and its bytes
@@ -44,7 +45,8 @@ bytes : (c : tie.After-part Inv-loop μ-loop) → c .part .result .now ≡ linke
 bytes c = c .part .ensures ∙ sym (there (c .before) .bytes)
 
 -- it breaks no rule
-good : (c : tie.Else3 Inv-loop μ-loop) → let l = c .before .before .before .before .before .before .before .before .before .before .before .before .loop in tableFault (c .before .before .before .before .before .before .before .before .before .before .before .before .before .before .before .args .image .now) (c .before .before .before .before .before .before .before .before .before .before .before .before .before .before .before .args .d) (take (l .count) (l .tables)) (l .reference) ≡ 0
+good : (c : tie.Else3 Inv-loop μ-loop) → let l = c .before .before .before .before .before .before .before .before .before .before .before .before .loop in let a = c .before .before .before .before .before .before .before .before .before .before .before .before .before .before .before .args in
+    tableFault (a .image .now) (a .d) (tablesAfter (a .image .now) (l .count) (a .d .table)) (l .reference) ≡ 0
 good c = Tables.table-none _ _ _ _ (fresh (c .before .before .before .before .before .before .before)) _ _ (there (c .before .before .before)) (rw (ap length (bytes (c .before .before)) ∙ there (c .before .before .before) .holds) at (c .if3 .left))
 
 -- what its blocks came to
@@ -62,7 +64,7 @@ returns : tie.Need-returns Inv-loop μ-loop
 returns c = Steps.followed-many _ _ _ _ _ _ _ _ _ (c .before .before .loop .inv) (missed (c .before)) (c .if1 .taken)
 
 seen-requires : tie.Need-seen-requires Inv-loop μ-loop
-seen-requires c κs = (c .before .before .before .loop .inv .kept, c .before .before .before .loop .inv .few)
+seen-requires c κs = (c .before .before .before .before .before .before .pre .0, c .before .before .before .loop .inv .marked)
 
 same-length-2 : tie.Need-same-length-2 Inv-loop μ-loop
 same-length-2 c = c .before .before .before .before .before .loop .inv .long
@@ -111,14 +113,14 @@ same-length-5 c = ap length (took (c .before .before .before .before) .leaves) �
 returns-5 : tie.Need-returns-5 Inv-loop μ-loop
 returns-5 c = Steps.followed-broken _ _ _ _ _ _ _ _ _ (c .before .before .before .before .before .before .before .before .before .before .before .before .before .before .before .before .before .before .loop .inv) (missed (c .before .before .before .before .before .before .before .before .before .before .before .before .before .before .before .before .before)) (more (c .before .before .before .before .before .before .before .before .before .before .before .before .before .before .before .before)) (good (c .before .before .before .before .before .before)) _ _ _ (took (c .before .before .before .before)) (c .if4 .taken)
 
-mul-tables : tie.Need-mul-tables Inv-loop μ-loop
-mul-tables c = omega arith
+mark-of-requires : tie.Need-mark-of-requires Inv-loop μ-loop
+mark-of-requires c κs = search needs
 
-array-write-tables : tie.Need-array-write-tables Inv-loop μ-loop
-array-write-tables c = omega (arith, c .before .before .before .before .before .before .before .before .before .before .before .before .before .before .before .before .before .before .loop .inv .kept, more (c .before .before .before .before .before .before .before .before .before .before .before .before .before .before .before .before))
+array-write-marks : tie.Need-array-write-marks Inv-loop μ-loop
+array-write-marks c = omega (arith, c .mark-of .ensures)
 
 add-count : tie.Need-add-count Inv-loop μ-loop
-add-count c = omega (arith, more (c .before .before .before .before .before .before .before .before .before .before .before .before .before .before .before .before))
+add-count c = omega (arith, more (c .before .before .before .before .before .before .before .before .before .before .before .before .before .before .before .before .before))
 
 read16-requires : tie.Need-read16-requires Inv-loop μ-loop
 read16-requires c κs = search needs
@@ -127,15 +129,18 @@ cast-reference : tie.Need-cast-reference Inv-loop μ-loop
 cast-reference c = search needs
 
 add-index : tie.Need-add-index Inv-loop μ-loop
-add-index c = omega (arith, c .before .before .before .before .before .before .before .before .before .before .before .before .before .before .before .before .before .before .before .before .loop .inv .low, c .before .before .before .before .before .before .before .before .before .before .before .before .before .before .before .before .before .before .before .before .loop .inv .few, c .before .before .before .before .before .before .before .before .before .before .before .before .before .before .before .before .before .before .before .before .before .before .before .pre .1 .entries)
+add-index c = omega (arith, c .before .before .before .before .before .before .before .before .before .before .before .before .before .before .before .before .before .before .before .before .before .loop .inv .low, c .before .before .before .before .before .before .before .before .before .before .before .before .before .before .before .before .before .before .before .before .before .loop .inv .few, c .before .before .before .before .before .before .before .before .before .before .before .before .before .before .before .before .before .before .before .before .before .before .before .before .pre .1 .entries)
 
 loop-less : tie.Need-loop-less Inv-loop μ-loop
-loop-less c = omega (arith, more (c .before .before .before .before .before .before .before .before .before .before .before .before .before .before .before .before .before .before))
+loop-less c = omega (arith, more (c .before .before .before .before .before .before .before .before .before .before .before .before .before .before .before .before .before .before .before))
 
 loop-again : tie.Need-loop-again Inv-loop μ-loop
 loop-again c =
-    rw (c .before .read16 .ensures .is ∙ ap (λ t. be 2 t 0) (bytes (c .before .before .before .before .before .before .before .before .before .before)))
-    (Steps.following-next _ _ _ _ _ _ _ _ _ (c .before .before .before .before .before .before .before .before .before .before .before .before .before .before .before .before .before .before .before .before .loop .inv) (missed (c .before .before .before .before .before .before .before .before .before .before .before .before .before .before .before .before .before .before .before)) (more (c .before .before .before .before .before .before .before .before .before .before .before .before .before .before .before .before .before .before)) (good (c .before .before .before .before .before .before .before .before)) _ _ _ (took (c .before .before .before .before .before .before)) (c .before .before .if4 .left) (c .before .before .before .before .before .before .before .before .before .before .before .before .before .before .before .before .before .before .before .before .before .before .before .pre .1 .entries))
+    let table = c .before .before in
+    let told = table .before .before .before .before .before .before .before in
+    let l = told .before .before .before .before .before .before .before .before .before .before .before .before in
+    rw (c .before .read16 .ensures .is ∙ ap (λ t. be 2 t 0) (bytes (told .before .before)), table .mark-of .ensures)
+    (Steps.following-next _ _ _ _ _ _ _ _ _ (l .loop .inv) (missed (told .before .before .before .before .before .before .before .before .before .before .before)) (more (told .before .before .before .before .before .before .before .before .before .before)) (good told) _ _ _ (took (table .before .before .before .before .before)) (table .before .if4 .left) (l .before .before .before .pre .1 .entries))
 
 same-length-6 : tie.Need-same-length-6 Inv-loop μ-loop
 same-length-6 c = c .before .loop .inv .long
@@ -168,8 +173,8 @@ follow-spec =
     take-blocks-requires
     same-length-5
     returns-5
-    mul-tables
-    array-write-tables
+    mark-of-requires
+    array-write-marks
     add-count
     read16-requires
     cast-reference
