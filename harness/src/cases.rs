@@ -55,11 +55,15 @@ pub fn cases() -> Vec<Case> {
 pub fn check(case: &Case) -> Result<(), String> {
     let [number, place, blocks, slots, live] = case.answer;
     let paper = Opened { number, place, blocks, slots, live };
-    let library = ffi::open(&case.image);
-    let reader = expected_open(&reader::open(&case.image));
+    check_opening(&case.image, paper).map_err(|answers| format!("marked case {}\n{answers}", case.index))
+}
+
+/// Opening must answer what the paper says, by the library and by the reader; else all three answers.
+fn check_opening(image: &[u8], paper: Opened) -> Result<(), String> {
+    let library = ffi::open(image);
+    let reader = expected_open(&reader::open(image));
     if library != paper || reader != paper {
-        let index = case.index;
-        return Err(format!("marked case {index}\npaper   {paper:?}\nlibrary {library:?}\nreader  {reader:?}"));
+        return Err(format!("paper   {paper:?}\nlibrary {library:?}\nreader  {reader:?}"));
     }
     Ok(())
 }

@@ -22,11 +22,11 @@ module _ (next : ℕ → ℕ) where
   unfolding linkAfter
   link-none k b e = ap (λ n. linkAfter next n b) e
 
-  pub links-step : (k b : ℕ) → 0 < k → linksAfter next k b ≡ b ∷ linksAfter next (k - 1) (next b)
+  links-step : (k b : ℕ) → 0 < k → linksAfter next k b ≡ b ∷ linksAfter next (k - 1) (next b)
   unfolding linksAfter
   links-step k b h = let e : k ≡ suc (k - 1) = omega arith in ap (λ n. linksAfter next n b) e
 
-  pub links-none : (k b : ℕ) → k ≤ 0 → linksAfter next k b ≡ []
+  links-none : (k b : ℕ) → k ≤ 0 → linksAfter next k b ≡ []
   unfolding linksAfter
   links-none k b h = let e : k ≡ 0 = omega arith in ap (λ n. linksAfter next n b) e
 

@@ -2,11 +2,11 @@
 //! block, a further block and an element at each end of each block, and an element across it. What opening answers follows from
 //! where the blocks stand; library and reader must both give it.
 
+use super::check_opening;
 use super::pieces::{block, slot, FREE_SLOT};
-use crate::compare::directory::expected_open;
-use crate::ffi::{self, Answer, Opened};
+use crate::ffi::{Answer, Opened};
 use crate::random::Random;
-use crate::reader::{self, DIR_BIG, DIR_LOOP, DIR_OVER, FIRST_BYTES, MOST_BLOCKS, ON_DIRECTORY};
+use crate::reader::{DIR_BIG, DIR_LOOP, DIR_OVER, FIRST_BYTES, MOST_BLOCKS, ON_DIRECTORY};
 
 /// A block with no slots, which joins a chain; and the head of any block.
 const SMALL_BLOCK: usize = 6;
@@ -79,7 +79,8 @@ impl Chain {
         let mut count = 0;
         for at in &self.places {
             let before = at.checked_sub(SMALL_BLOCK).filter(|before| *before >= 4);
-            let cases = [(before, false), (before.map(|at| at + 1), true), (Some(end(*at) - 1), true), (Some(end(*at)), false)];
+            let cases =
+                [(before, false), (before.map(|at| at + 1), true), (Some(end(*at) - 1), true), (Some(end(*at)), false)];
             for (small, meets) in cases.into_iter().filter_map(|(small, meets)| Some((small?, meets))) {
                 check(&self.image(small), self.joined(small, meets))?;
                 count += 1;
@@ -93,7 +94,11 @@ impl Chain {
         if self.places.len() == MOST_BLOCKS {
             return Opened::refused(DIR_BIG, small as u64);
         }
-        if meets { Opened::refused(DIR_OVER, small as u64) } else { self.opens(1) }
+        if meets {
+            Opened::refused(DIR_OVER, small as u64)
+        } else {
+            self.opens(1)
+        }
     }
 
     /// With the element of a block just before, on the first byte, on the last byte, just behind and across each block.
@@ -111,13 +116,8 @@ impl Chain {
 }
 
 /// Holds one file against library and reader.
-fn check(image: &[u8], expected: Opened) -> Result<(), String> {
-    let library = ffi::open(image);
-    let reader = expected_open(&reader::open(image));
-    if library != expected || reader != expected {
-        return Err(format!("a chain\nrules   {expected:?}\nlibrary {library:?}\nreader  {reader:?}\n{image:?}"));
-    }
-    Ok(())
+fn check(image: &[u8], paper: Opened) -> Result<(), String> {
+    check_opening(image, paper).map_err(|answers| format!("a chain\n{answers}\n{image:?}"))
 }
 
 /// All orders of so many numbers that start with 0.

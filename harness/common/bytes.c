@@ -1,7 +1,7 @@
-/* What images made by hand are put together from. */
 #include <stdlib.h>
 
-#include "bench.h"
+#include "bytes.h"
+#include "need.h"
 
 void put_16(uint8_t *at, int number)
 {
