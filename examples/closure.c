@@ -12,7 +12,6 @@
 
 #define TAG 40000
 #define REFERENCE 5
-#define EDIT_ROOM 230 /* the most bytes by which an edit makes a file longer, besides its data */
 
 static const uint8_t text[] = "pass road closed: snow";
 #define SIZE (sizeof text - 1)
@@ -26,38 +25,13 @@ static const uint8_t start[] = {
     'h', 'u', 'b',
 };
 
-/* The names of the refusals, by their numbers. */
-static const char *const names[] = {
-    [HDF4_TOO_LONG] = "TOO_LONG",
-    [HDF4_NOT_HDF] = "NOT_HDF",
-    [HDF4_DIR_CUT] = "DIR_CUT",
-    [HDF4_DIR_LOOP] = "DIR_LOOP",
-    [HDF4_DIR_OVER] = "DIR_OVER",
-    [HDF4_DIR_BIG] = "DIR_BIG",
-    [HDF4_BAD_TAG] = "BAD_TAG",
-    [HDF4_OUTSIDE] = "OUTSIDE",
-    [HDF4_ON_DIRECTORY] = "ON_DIRECTORY",
-    [HDF4_TWICE] = "TWICE",
-    [HDF4_ABSENT] = "ABSENT",
-    [HDF4_STORAGE] = "STORAGE",
-    [HDF4_CHAIN] = "CHAIN",
-    [HDF4_SMALL] = "SMALL",
-    [HDF4_RECORD] = "RECORD",
-    [HDF4_TYPE] = "TYPE",
-    [HDF4_NO_VALUE] = "NO_VALUE",
-    [HDF4_PRESENT] = "PRESENT",
-    [HDF4_NO_ROOM] = "NO_ROOM",
-    [HDF4_NO_EDIT] = "NO_EDIT",
-    [HDF4_BAD_TRAILER] = "BAD_TRAILER",
-    [HDF4_DEEP] = "DEEP",
-};
-
 /* Ends the program if a call was refused. */
 static void need(const char *call, uint64_t number, uint64_t place)
 {
     if (number == 0)
         return;
-    fprintf(stderr, "%s: %s (number %" PRIu64 ", place %" PRIu64 ")\n", call, names[number], number, place);
+    fprintf(stderr, "%s: %s: %s (number %" PRIu64 ", place %" PRIu64 ")\n", call, hdf4_refusal_name(number), hdf4_refusal_text(number),
+            number, place);
     exit(1);
 }
 
@@ -92,7 +66,7 @@ static void read_closure(const uint8_t *image, size_t n)
 
 int main(void)
 {
-    uint8_t buffer[sizeof start + SIZE + EDIT_ROOM] = {0};
+    uint8_t buffer[sizeof start + SIZE + HDF4_EDIT_ROOM] = {0};
     memcpy(buffer, start, sizeof start);
 
     hdf4_edit_answer added = hdf4_add(buffer, sizeof buffer, sizeof start, TAG, REFERENCE, text, SIZE);
@@ -103,7 +77,7 @@ int main(void)
     /* A second closure under the same reference is refused, and nothing is written. */
     hdf4_edit_answer again = hdf4_add(buffer, sizeof buffer, added.length, TAG, REFERENCE, text, SIZE);
     check(again.number == HDF4_PRESENT, "a second closure was not refused");
-    printf("refused: %s (number %" PRIu64 ", place %" PRIu64 ")\n", names[again.number], again.number, again.place);
+    printf("refused: %s (number %" PRIu64 ", place %" PRIu64 ")\n", hdf4_refusal_name(again.number), again.number, again.place);
 
     hdf4_edit_answer undone = hdf4_undo(buffer, sizeof buffer, added.length);
     need("hdf4_undo", undone.number, undone.place);

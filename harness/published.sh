@@ -5,6 +5,7 @@
 #     HARNESS=path/to/harness ./published.sh
 
 set -eu
+unset CDPATH
 
 here=$(cd "$(dirname "$0")" && pwd)
 harness=${HARNESS:-$here/target/release/harness}

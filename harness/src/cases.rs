@@ -9,8 +9,8 @@ pub mod records;
 pub mod refusals;
 
 use crate::compare::directory::expected_open;
-use crate::ffi::{self, Opened};
 use crate::reader::{self, FIRST_BYTES};
+use hdf4_sys::{self as library, OpenAnswer};
 use pieces::NEXT;
 
 /// The file A of the marked cases.
@@ -54,13 +54,13 @@ pub fn cases() -> Vec<Case> {
 /// Holds one case against the library and the reader.
 pub fn check(case: &Case) -> Result<(), String> {
     let [number, place, blocks, slots, live] = case.answer;
-    let paper = Opened { number, place, blocks, slots, live };
+    let paper = OpenAnswer { number, place, blocks, slots, live };
     check_opening(&case.image, paper).map_err(|answers| format!("marked case {}\n{answers}", case.index))
 }
 
 /// Opening must answer what the paper says, by the library and by the reader; else all three answers.
-fn check_opening(image: &[u8], paper: Opened) -> Result<(), String> {
-    let library = ffi::open(image);
+fn check_opening(image: &[u8], paper: OpenAnswer) -> Result<(), String> {
+    let library = library::open(image);
     let reader = expected_open(&reader::open(image));
     if library != paper || reader != paper {
         return Err(format!("paper   {paper:?}\nlibrary {library:?}\nreader  {reader:?}"));

@@ -7,11 +7,11 @@ pub mod records;
 pub mod storage;
 pub mod vset;
 
-use crate::ffi::Answer;
 use crate::lent::{surround, Lent};
 use crate::random::Random;
 use crate::reader::{self, Directory, Refusal};
 use crate::tally::{Call, Tally};
+use hdf4_sys::Answer;
 use std::fmt;
 
 /// A call on which the library differs from reader, editor or history, or that altered what it may not.

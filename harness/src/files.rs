@@ -3,11 +3,11 @@
 
 use crate::compare::directory::expected_open;
 use crate::compare::{compare, Pairs};
-use crate::ffi::Opened;
 use crate::random::Random;
 use crate::reader::{self, base_tag};
 use crate::sequences::round_trip::round_trip;
 use crate::tally::Tally;
+use hdf4_sys::OpenAnswer;
 use std::collections::BTreeMap;
 use std::fs;
 use std::path::{Path, PathBuf};
@@ -52,7 +52,7 @@ pub fn image(name: &str) -> Result<Vec<u8>, String> {
 }
 
 /// Compares all calls on one file, each pair in it looked up. Answers what opening it answers.
-fn compare_one(path: &Path, random: &mut Random, tally: &mut Tally) -> Result<Opened, String> {
+fn compare_one(path: &Path, random: &mut Random, tally: &mut Tally) -> Result<OpenAnswer, String> {
     let image = read(path)?;
     let outcome = compare(&image, Pairs::All, random, tally).map_err(|difference| difference.to_string());
     let outcome = outcome.and_then(|()| round_trip(&image, random, tally));
@@ -76,8 +76,8 @@ fn hdf_files() -> Result<Vec<PathBuf>, String> {
     Ok(files)
 }
 
-fn numbers(answer: &Opened) -> String {
-    let Opened { number, place, blocks, slots, live } = answer;
+fn numbers(answer: &OpenAnswer) -> String {
+    let OpenAnswer { number, place, blocks, slots, live } = answer;
     format!("{number} {place} {blocks} {slots} {live}")
 }
 

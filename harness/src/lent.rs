@@ -1,5 +1,6 @@
 //! Memory lent to the library, watched for bytes that change where none may.
 
+use hdf4_sys::Field;
 use std::fmt::Debug;
 use std::hint::black_box;
 use std::ops::Range;
@@ -56,7 +57,7 @@ impl<'a> Lent<'a> {
     }
 }
 
-impl<T: Copy + Debug + PartialEq + From<u8>> Table<T> {
+impl<T: Copy + Debug + PartialEq + Filling> Table<T> {
     pub fn new(room: usize) -> Table<T> {
         Table { memory: filling(EDGE + room + EDGE), room: EDGE..EDGE + room }
     }
@@ -76,7 +77,46 @@ impl<T: Copy + Debug + PartialEq + From<u8>> Table<T> {
     }
 }
 
+/// What fills a table beforehand.
+pub trait Filling {
+    fn filled(byte: u8) -> Self;
+}
+
+impl Filling for u8 {
+    fn filled(byte: u8) -> u8 {
+        byte
+    }
+}
+
+impl Filling for u16 {
+    fn filled(byte: u8) -> u16 {
+        byte.into()
+    }
+}
+
+impl Filling for u32 {
+    fn filled(byte: u8) -> u32 {
+        byte.into()
+    }
+}
+
+/// Another number in each place of a field.
+impl Filling for Field {
+    fn filled(byte: u8) -> Field {
+        let number = u16::from(byte) | 0xa500;
+        let long = u32::from(byte) | 0xc3e1_8700;
+        Field {
+            code: number,
+            size: number ^ 0x1111,
+            offset: number ^ 0x2222,
+            order: number ^ 0x3333,
+            name_offset: long,
+            name_length: long ^ 0x4444_4444,
+        }
+    }
+}
+
 /// Numbers that differ from their neighbours.
-fn filling<T: From<u8>>(count: usize) -> Vec<T> {
-    (0..count).map(|index| T::from((index * 89 + 0x5a) as u8)).collect()
+fn filling<T: Filling>(count: usize) -> Vec<T> {
+    (0..count).map(|index| T::filled((index * 89 + 0x5a) as u8)).collect()
 }

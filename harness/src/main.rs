@@ -14,7 +14,6 @@ mod cases;
 mod compare;
 mod editor;
 mod elements;
-mod ffi;
 mod files;
 mod history;
 mod images;
@@ -44,6 +43,11 @@ const DEFAULT_FILES: u64 = 250_000;
 const DEFAULT_ELEMENTS: u64 = 40_000;
 const DEFAULT_RECORDS: u64 = 40_000;
 const DEFAULT_SEQUENCES: u64 = 30_000;
+
+// The limits that callers are told are those of the reader.
+const _: () = assert!(hdf4_sys::MOST_BYTES as u64 == reader::MOST_BYTES);
+const _: () = assert!(hdf4_sys::MOST_ELEMENTS as u64 == reader::MOST_SLOTS);
+const _: () = assert!(hdf4_sys::MOST_FIELDS == vset::MOST_FIELDS && hdf4_sys::MOST_PAIRS == vset::MOST_PAIRS);
 
 /// Compares what a seed and an index make.
 type Generated = fn(u64, u64, &mut Tally) -> Result<(), String>;

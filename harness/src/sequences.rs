@@ -8,10 +8,10 @@ mod trailers;
 use crate::compare::edits::Lending;
 use crate::compare::Difference;
 use crate::editor::{Request, CLOSING};
-use crate::ffi::Edited;
 use crate::hex_dump;
 use crate::random::Random;
 use crate::tally::Tally;
+use hdf4_sys::EditAnswer;
 use requests::Mix;
 use starts::Start;
 
@@ -58,7 +58,7 @@ fn play(seed: u64, index: u64, tally: &mut Tally, show: bool) -> Result<(), Stri
 
 impl Sequence<'_> {
     /// One call: the length given to it, the call and its answer.
-    fn step(&mut self) -> Result<(u64, Request, Edited), Difference> {
+    fn step(&mut self) -> Result<(u64, Request, EditAnswer), Difference> {
         let (length, capacity) = (self.lending.file().len(), self.lending.capacity());
         let request = requests::request(&mut self.random, self.lending.file(), capacity, self.mix);
         if self.random.once_in(ABSURD_LENGTH_EVERY) {

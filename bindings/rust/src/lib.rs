@@ -3,9 +3,13 @@
 //! An image is the bytes of a whole file. Nothing is kept between calls, and nothing is allocated but lists. No call asks
 //! anything of its arguments: every input is answered, or refused with an [`Error`] that names the [`Rule`] and the place.
 //!
+//! [`File`] owns the bytes of a file and keeps its length through edits; it is what most programs want. The functions below work
+//! on bytes that are owned elsewhere.
+//!
 //! # Reading
 //!
-//! [`open`] judges an image and counts its directory, [`list`] gives its elements, [`find`] the descriptor of one.
+//! [`open`] judges an image and counts its directory, [`list`] and [`elements`] give its elements, [`find`] the descriptor of
+//! one.
 //!
 //! [`view`] gives an element's own part of the image, [`choose`] that of the first of two images that has the element, and
 //! [`copy`] writes its bytes to a buffer, also where the element is of linked blocks.
@@ -55,120 +59,22 @@
 
 #![deny(missing_docs)]
 
-mod ffi;
+mod file;
 mod records;
+mod rule;
 mod vset;
 
+pub use file::{elements, Elements, File};
 pub use records::{pack_array, pack_dimension, pack_number_type, read_array, read_dimension, read_number_type};
 pub use records::{Array, Dimension, NumberType, Pair};
+pub use rule::Rule;
 pub use vset::{list_group, pack_group, pack_vdata, read_group, read_value, read_vdata};
-pub use vset::{Field, Group, Value, Vdata, MOST_FIELDS, MOST_PAIRS};
+pub use vset::{Field, Group, Value, Vdata};
 
+pub use hdf4_sys::{EDIT_ROOM, MOST_BYTES, MOST_ELEMENTS, MOST_FIELDS, MOST_PAIRS, VERSION};
+
+use hdf4_sys as ffi;
 use std::fmt;
-
-/// The rule that a call's input breaks. Its number is that of the refusal.
-#[derive(Clone, Copy, Debug, PartialEq, Eq, Hash)]
-#[non_exhaustive]
-pub enum Rule {
-    /// The image is longer than [`MOST_BYTES`] or than its buffer, or an edit would make it longer than that.
-    TooLong = 1,
-    /// Shorter than 4 bytes, or other first bytes.
-    NotHdf = 2,
-    /// A block is not wholly inside.
-    DirCut = 3,
-    /// The next block is one already walked.
-    DirLoop = 4,
-    /// A block shares a byte with the header or an earlier block.
-    DirOver = 5,
-    /// A 257th block or a 4,097th slot.
-    DirBig = 6,
-    /// A tag that no live slot may have, or that no edit takes.
-    BadTag = 7,
-    /// An element ends past the image.
-    Outside = 8,
-    /// An element touches the header or a block.
-    OnDirectory = 9,
-    /// Two live slots have the same base tag and reference.
-    Twice = 10,
-    /// No live slot has that base tag and reference.
-    Absent = 11,
-    /// The element is extended, and not of a kind that the call reads.
-    Storage = 12,
-    /// The linked blocks of the element are broken.
-    Chain = 13,
-    /// The lent output is too short.
-    Small = 14,
-    /// A record breaks its layout.
-    Record = 15,
-    /// A number type is not known.
-    Type = 16,
-    /// The Vdata has no such record, field or component.
-    NoValue = 17,
-    /// An element with that base tag and reference is there already.
-    Present = 18,
-    /// The buffer is shorter than the new image.
-    NoRoom = 19,
-    /// The image carries no trailer, so there is nothing to undo.
-    NoEdit = 20,
-    /// The trailer breaks a rule.
-    BadTrailer = 21,
-    /// Groups are nested past 16.
-    Deep = 22,
-}
-
-/// Each rule with its name and what it says, in the order of their numbers.
-const RULES: [(Rule, &str, &str); 22] = [
-    (Rule::TooLong, "TOO_LONG", "the file is too long"),
-    (Rule::NotHdf, "NOT_HDF", "this is no HDF4 file"),
-    (Rule::DirCut, "DIR_CUT", "a block of descriptors is not wholly inside the file"),
-    (Rule::DirLoop, "DIR_LOOP", "the chain of blocks comes back to one already walked"),
-    (Rule::DirOver, "DIR_OVER", "a block of descriptors overlaps the header or an earlier block"),
-    (Rule::DirBig, "DIR_BIG", "there are more than 256 blocks or 4,096 slots"),
-    (Rule::BadTag, "BAD_TAG", "a tag is not allowed"),
-    (Rule::Outside, "OUTSIDE", "an element ends past the end of the file"),
-    (Rule::OnDirectory, "ON_DIRECTORY", "an element touches the header or a block of descriptors"),
-    (Rule::Twice, "TWICE", "two elements have the same tag and reference"),
-    (Rule::Absent, "ABSENT", "there is no element with that tag and reference"),
-    (Rule::Storage, "STORAGE", "the element is stored in a way that is not read here"),
-    (Rule::Chain, "CHAIN", "the linked blocks of the element are broken"),
-    (Rule::Small, "SMALL", "the output is too short"),
-    (Rule::Record, "RECORD", "a record breaks its layout"),
-    (Rule::Type, "TYPE", "a number type is not known"),
-    (Rule::NoValue, "NO_VALUE", "there is no such record, field or component"),
-    (Rule::Present, "PRESENT", "there is already an element with that tag and reference"),
-    (Rule::NoRoom, "NO_ROOM", "the buffer has no room for the edit"),
-    (Rule::NoEdit, "NO_EDIT", "there is no edit to undo"),
-    (Rule::BadTrailer, "BAD_TRAILER", "the trailer of the last edit is damaged"),
-    (Rule::Deep, "DEEP", "groups are nested more than 16 deep"),
-];
-
-impl Rule {
-    /// The refusal's number, from 1 on.
-    pub fn number(self) -> u64 {
-        self as u64
-    }
-
-    /// The refusal's name, as `TOO_LONG`.
-    pub fn name(self) -> &'static str {
-        RULES[self as usize - 1].1
-    }
-}
-
-/// The name, a colon and what the rule says.
-impl fmt::Display for Rule {
-    fn fmt(&self, f: &mut fmt::Formatter<'_>) -> fmt::Result {
-        write!(f, "{}: {}", self.name(), RULES[*self as usize - 1].2)
-    }
-}
-
-/// The most bytes that an image has.
-pub const MOST_BYTES: usize = 2_147_483_647;
-
-/// The most elements that an image has.
-pub const MOST_ELEMENTS: usize = 4096;
-
-/// The most bytes by which an edit makes an image longer, besides its data: a block of descriptors and a trailer.
-pub const EDIT_ROOM: usize = 198 + 32;
 
 /// A refusal: the rule, and the place of the fault.
 #[derive(Clone, Copy, Debug, PartialEq, Eq, Hash)]
@@ -182,7 +88,7 @@ pub struct Error {
 impl Error {
     /// The refusal with a number that the library gave.
     fn new(number: u64, place: u64) -> Error {
-        Error { rule: RULES[number as usize - 1].0, place }
+        Error { rule: Rule::new(number), place }
     }
 
     /// The rule's number.
@@ -363,12 +269,28 @@ pub(crate) mod tests {
     }
 
     #[test]
-    fn rules_stand_in_the_order_of_their_numbers() {
-        for (index, (rule, name, _)) in RULES.iter().enumerate() {
-            assert_eq!((rule.number(), rule.name()), (index as u64 + 1, *name));
+    fn a_rule_has_its_number_and_its_name() {
+        for (number, name, says) in ffi::REFUSALS {
+            let rule = Rule::new(number);
+            assert_eq!((rule.number(), rule.name(), rule.says()), (number, name, says));
             let spelled = name.replace('_', "").to_lowercase();
             assert_eq!(format!("{rule:?}").to_lowercase(), spelled);
         }
+    }
+
+    #[test]
+    fn a_number_that_is_not_known_is_a_rule_too() {
+        for number in [0, 1000, 1 << 32, u64::MAX] {
+            let error = Error::new(number, 7);
+            assert_eq!((error.rule, error.number(), error.name()), (Rule::Unknown(number), number, "UNKNOWN"));
+            let told = format!("UNKNOWN: a rule that this version does not know (number {number}, place 7)");
+            assert_eq!(error.to_string(), told);
+        }
+    }
+
+    #[test]
+    fn the_version_is_that_of_the_library() {
+        assert_eq!(VERSION, env!("CARGO_PKG_VERSION"));
     }
 
     /// Linked element 100/1 of seven bytes: the record at 46, then its table 20/1 and the block 20/2, which both entries name.

@@ -1,7 +1,7 @@
 //! Number types, dimensions and arrays.
 
-use crate::ffi::records as ffi;
 use crate::{granted, view, Error};
+use hdf4_sys as ffi;
 
 /// A tag and a reference.
 #[derive(Clone, Copy, Debug, PartialEq, Eq)]
@@ -54,6 +54,9 @@ pub struct Array {
 const ARRAY: u16 = 701;
 const BYTES_OF_A_SIZE_AND_A_PAIR: usize = 8;
 
+/// The most entries that the list of a record has: their number has 16 bits.
+pub(crate) const MOST_OF_A_LIST: usize = 65535;
+
 pub(crate) fn pair(tag: u64, reference: u64) -> Pair {
     Pair { tag: tag as u16, reference: reference as u16 }
 }
@@ -75,13 +78,14 @@ pub(crate) fn packed(answer: ffi::PackAnswer) -> Result<usize, Error> {
 /// Reads a number type.
 pub fn read_number_type(image: &[u8], reference: u16) -> Result<NumberType, Error> {
     let a = ffi::read_number_type(image, reference);
-    let [version, number_type, width, class] = [a.version, a.kind, a.width, a.class].map(|number| number as u8);
+    let [version, number_type, width, class] = [a.version, a.code, a.width, a.number_class].map(|number| number as u8);
     granted(a.number, a.place, NumberType { version, number_type, width, class })
 }
 
 /// Packs a number type to the front of `out` and gives its length, 4.
 pub fn pack_number_type(number_type: &NumberType, out: &mut [u8]) -> Result<usize, Error> {
-    packed(ffi::pack_number_type(number_type, out))
+    let NumberType { version, number_type, width, class } = *number_type;
+    packed(ffi::pack_number_type(version, number_type, width, class, out))
 }
 
 /// Reads the dimension with the base tag of a tag, which may be any.
@@ -100,12 +104,15 @@ pub fn read_dimension(image: &[u8], tag: u16, reference: u16) -> Result<Dimensio
 
 /// Packs a dimension to the front of `out` and gives its length, 20.
 pub fn pack_dimension(dimension: &Dimension, out: &mut [u8]) -> Result<usize, Error> {
-    packed(ffi::pack_dimension(dimension, out))
+    let Dimension { x, y, elements, interlace, .. } = *dimension;
+    let Pair { tag: type_tag, reference: type_ref } = dimension.number_type;
+    let Pair { tag: compression_tag, reference: compression_ref } = dimension.compression;
+    packed(ffi::pack_dimension(x, y, type_tag, type_ref, elements, interlace, compression_tag, compression_ref, out))
 }
 
 /// Reads an array.
 pub fn read_array(image: &[u8], reference: u16) -> Result<Array, Error> {
-    let most = view(image, ARRAY, reference)?.len() / BYTES_OF_A_SIZE_AND_A_PAIR;
+    let most = MOST_OF_A_LIST.min(view(image, ARRAY, reference)?.len() / BYTES_OF_A_SIZE_AND_A_PAIR);
     let (mut sizes, mut table) = (vec![0; most], vec![0; 2 * (most + 1)]);
     let a = ffi::read_array(image, reference, &mut sizes, &mut table);
     let rank = granted(a.number, a.place, a.rank as usize)?;

@@ -1,8 +1,8 @@
 //! Vgroups and Vdatas.
 
-use crate::ffi::records as ffi;
-use crate::records::{packed, pair, pairs_of, table_of, Pair};
-use crate::{granted, part, view, Error};
+use crate::records::{packed, pair, pairs_of, table_of, Pair, MOST_OF_A_LIST};
+use crate::{granted, part, view, Error, MOST_FIELDS, MOST_PAIRS};
+use hdf4_sys as ffi;
 use std::fmt;
 
 /// A Vgroup, of tag 1965. The version is 3.
@@ -74,21 +74,15 @@ pub enum Value {
     Float64(f64),
 }
 
-/// The most fields that a Vdata has.
-pub const MOST_FIELDS: usize = 256;
-
-/// The most pairs that the listing of a group has.
-pub const MOST_PAIRS: usize = 4096;
-
 const GROUP: u16 = 1965;
 const BYTES_OF_A_PAIR: usize = 4;
 
 impl Value {
     fn new(kind: u64, bits: u64) -> Value {
         match kind {
-            1 => Value::Signed(bits as i64),
-            3 => Value::Float32(f32::from_bits(bits as u32)),
-            4 => Value::Float64(f64::from_bits(bits)),
+            ffi::SIGNED => Value::Signed(bits as i64),
+            ffi::FLOAT32 => Value::Float32(f32::from_bits(bits as u32)),
+            ffi::FLOAT64 => Value::Float64(f64::from_bits(bits)),
             _ => Value::Unsigned(bits),
         }
     }
@@ -108,27 +102,25 @@ impl fmt::Display for Value {
 
 /// Reads a Vgroup.
 pub fn read_group(image: &[u8], reference: u16) -> Result<Group<'_>, Error> {
-    let mut members = vec![0; 2 * (view(image, GROUP, reference)?.len() / BYTES_OF_A_PAIR)];
+    let most = MOST_OF_A_LIST.min(view(image, GROUP, reference)?.len() / BYTES_OF_A_PAIR);
+    let mut members = vec![0; 2 * most];
     let a = ffi::read_group(image, reference, &mut members);
     let count = granted(a.number, a.place, a.members as usize)?;
     Ok(Group {
         members: pairs_of(&members[..2 * count]),
-        name: part(image, a.tail.name_offset, a.tail.name_length),
-        class: part(image, a.tail.class_offset, a.tail.class_length),
-        extension: pair(a.tail.extension_tag, a.tail.extension_ref),
-        version: a.tail.version as u16,
-        more: a.tail.more as u16,
+        name: part(image, a.name_offset, a.name_length),
+        class: part(image, a.class_offset, a.class_length),
+        extension: pair(a.extension_tag, a.extension_ref),
+        version: a.version as u16,
+        more: a.more as u16,
     })
 }
 
 /// Packs a Vgroup to the front of `out` and gives its length.
 pub fn pack_group(group: &Group, out: &mut [u8]) -> Result<usize, Error> {
     let Group { name, class, extension, version, more, .. } = *group;
-    packed(ffi::pack_group(&table_of(&group.members), &tail(name, class, extension, version, more), out))
-}
-
-fn tail<'a>(name: &'a [u8], class: &'a [u8], extension: Pair, version: u16, more: u16) -> ffi::Tail<'a> {
-    ffi::Tail { name, class, extension_tag: extension.tag, extension_ref: extension.reference, version, more }
+    let members = table_of(&group.members);
+    packed(ffi::pack_group(&members, name, class, extension.tag, extension.reference, version, more, out))
 }
 
 /// Lists the members of a Vgroup in order, each member of tag 1965 followed by its own members.
@@ -148,7 +140,7 @@ pub fn read_vdata(image: &[u8], reference: u16) -> Result<Vdata<'_>, Error> {
     let count = granted(a.number, a.place, a.fields as usize)?;
     let field = |field: &ffi::Field| Field {
         name: part(image, field.name_offset.into(), field.name_length.into()),
-        number_type: field.number_type,
+        number_type: field.code,
         size: field.size,
         offset: field.offset,
         order: field.order,
@@ -158,11 +150,11 @@ pub fn read_vdata(image: &[u8], reference: u16) -> Result<Vdata<'_>, Error> {
         records: a.records as u32,
         record_size: a.record_size as u16,
         fields: table[..count].iter().map(field).collect(),
-        name: part(image, a.tail.name_offset, a.tail.name_length),
-        class: part(image, a.tail.class_offset, a.tail.class_length),
-        extension: pair(a.tail.extension_tag, a.tail.extension_ref),
-        version: a.tail.version as u16,
-        more: a.tail.more as u16,
+        name: part(image, a.name_offset, a.name_length),
+        class: part(image, a.class_offset, a.class_length),
+        extension: pair(a.extension_tag, a.extension_ref),
+        version: a.version as u16,
+        more: a.more as u16,
     })
 }
 
@@ -175,9 +167,21 @@ pub fn pack_vdata(vdata: &Vdata, out: &mut [u8]) -> Result<usize, Error> {
     let length = |field: &Field| u16::try_from(field.name.len()).unwrap_or(u16::MAX);
     let name_lengths: Vec<u16> = vdata.fields.iter().map(length).collect();
     let names: Vec<u8> = vdata.fields.iter().flat_map(|field| field.name).copied().collect();
-    let tail = tail(name, class, extension, version, more);
-    let (fields, name_lengths, names) = (&fields[..], &name_lengths[..], &names[..]);
-    packed(ffi::pack_vdata(&ffi::Head { interlace, records, record_size, fields, name_lengths, names, tail }, out))
+    packed(ffi::pack_vdata(
+        interlace,
+        records,
+        record_size,
+        &fields,
+        &name_lengths,
+        &names,
+        name,
+        class,
+        extension.tag,
+        extension.reference,
+        version,
+        more,
+        out,
+    ))
 }
 
 /// Reads one value of a Vdata. All indices count from 0.

@@ -1,44 +1,86 @@
-// The refusal numbers, by their names: document 01's table.
+// The refusal numbers, by their names: document 01's table. Above each stand its rule and, behind `Says`, what a person is told.
+
+// The image is longer than its buffer or than `MOST_BYTES`, or an edit would make it so.
+// Says: the file is too long.
 pub const TOO_LONG: usize = 1;
 
+// The image is shorter than 4 bytes, or has other first bytes.
+// Says: this is no HDF4 file.
 pub const NOT_HDF: usize = 2;
 
+// A block is not wholly inside the image.
+// Says: a block of descriptors is not wholly inside the file.
 pub const DIR_CUT: usize = 3;
 
+// The next block is one already walked.
+// Says: the chain of blocks comes back to one already walked.
 pub const DIR_LOOP: usize = 4;
 
+// A block shares a byte with the header or an earlier block.
+// Says: a block of descriptors overlaps the header or an earlier block.
 pub const DIR_OVER: usize = 5;
 
+// There is a 257th block or a 4,097th slot.
+// Says: there are more than 256 blocks or 4,096 slots.
 pub const DIR_BIG: usize = 6;
 
+// A tag is one that no live slot may have, or that no edit takes.
+// Says: a tag is not allowed.
 pub const BAD_TAG: usize = 7;
 
+// An element ends past the image.
+// Says: an element ends past the end of the file.
 pub const OUTSIDE: usize = 8;
 
+// An element touches the header or a block.
+// Says: an element touches the header or a block of descriptors.
 pub const ON_DIRECTORY: usize = 9;
 
+// Two live slots have the same base tag and reference.
+// Says: two elements have the same tag and reference.
 pub const TWICE: usize = 10;
 
+// No live slot has that base tag and reference.
+// Says: there is no element with that tag and reference.
 pub const ABSENT: usize = 11;
 
+// The element is extended, and not of a kind that the call reads.
+// Says: the element is stored in a way that is not read here.
 pub const STORAGE: usize = 12;
 
+// The linked blocks of the element are broken.
 pub const CHAIN: usize = 13;
 
+// The lent output is too short.
+// Says: the output is too short.
 pub const SMALL: usize = 14;
 
+// A record breaks its layout.
 pub const RECORD: usize = 15;
 
+// A number type is not known.
 pub const TYPE: usize = 16;
 
+// The Vdata has no such record, field or component.
+// Says: there is no such record, field or component.
 pub const NO_VALUE: usize = 17;
 
+// An element with that base tag and reference is there already.
+// Says: there is already an element with that tag and reference.
 pub const PRESENT: usize = 18;
 
+// The buffer is shorter than the new image.
+// Says: the buffer has no room for the edit.
 pub const NO_ROOM: usize = 19;
 
+// The image carries no trailer, so there is nothing to undo.
+// Says: there is no edit to undo.
 pub const NO_EDIT: usize = 20;
 
+// The trailer breaks a rule; the place is the trailer's.
+// Says: the trailer of the last edit is damaged.
 pub const BAD_TRAILER: usize = 21;
 
+// Groups are nested past 16; the place is the slot of the 16th.
+// Says: groups are nested more than 16 deep.
 pub const DEEP: usize = 22;

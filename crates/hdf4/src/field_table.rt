@@ -12,14 +12,20 @@ ghost use Rattle.hdf4.specs.VsetAnswers.{vdataAnswer};
 ghost use Rattle.hdf4.specs.FieldTable.{structsOf};
 ghost use Rattle.hdf4.specs.Steps.{Lies, ReadsFields, fieldIn};
 
-// Type, size, offset and order of a field, and where its name stands in the image and how long it is.
+// A field of a Vdata.
 #[repr(C)]
 pub struct Field {
+    // C: type. The type's code.
     pub code: u16,
+    // Bytes of the field in a record.
     pub size: u16,
+    // Bytes of the fields before it.
     pub offset: u16,
+    // Numbers of the field in a record.
     pub order: u16,
+    // C: name_offset. Where the field's name stands in the image.
     pub name: u32,
+    // Bytes of the name.
     pub name_length: u32,
 }
 
@@ -80,6 +86,8 @@ fn field_at(image: &[u8], r: Reading, i: usize) -> Field
     }
 }
 
+// Reads the head of a Vdata as hdf4_read_vdata does, to one table with an entry a field. It is refused with `SMALL` where there are more
+// fields than entries.
 #[no_mangle]
 pub extern "C" fn hdf4_read_fields(image: &[u8], reference: u16, table: &mut [Field]) -> VdataAnswer
     ensures { λ r. ⌜ Does (headWithin (now (image .entry)) reference (length (now (table .entry)))) (structsOf (now (image .entry)) reference)

@@ -1,6 +1,15 @@
-// The C interface. Each function takes slices as pointer and length, calls the layer that does the work, and returns a struct of
-// numbers: number and place first, then the values in order, zeros on refusal. include/hdf4.h declares them for C.
+// The C interface of the library. Link libhdf4.a or libhdf4.so.
+//
+// Every function returns a struct of numbers: number and place first (0 and 0 where the call is granted), then its values in order, zeros
+// where it is refused. A slice passes as a pointer and a length, in entries of its type. A null pointer is allowed exactly where the length
+// is 0. Nothing is written where a call is refused.
+//
+// The numbers of refusals are named below. A place counts bytes from the start of the image.
+//
+// No function allocates memory or keeps anything between calls. On x86-64 none keeps more than 1,024 bytes of stack, but for
+// hdf4_list_group, which says what it keeps.
 mod field_table;
+pub mod limits;
 mod record_calls;
 mod vset_calls;
 
@@ -24,60 +33,80 @@ ghost use Rattle.journal.specs.Outcomes.{editedNumbers};
 ghost use Rattle.journal.specs.Buffers.{addIn, replaceIn, removeIn, undoIn};
 ghost use Rattle.hdf4.specs.Answers.{openAnswer, findAnswer, listAnswer, viewAnswer, copyAnswer, chooseAnswer, editAnswer, Tells, Edits};
 
+// What the directory of an image has.
 #[repr(C)]
 pub struct OpenAnswer {
     pub number: u64,
     pub place: u64,
+    // Blocks of descriptors.
     pub blocks: u64,
+    // Slots in these blocks, the free ones included.
     pub slots: u64,
+    // Slots that are not free: the elements.
     pub live: u64,
 }
 
+// Where an element's descriptor stands.
 #[repr(C)]
 pub struct FindAnswer {
     pub number: u64,
     pub place: u64,
+    // The place of the descriptor in the image.
     pub slot: u64,
 }
 
+// What was listed.
 #[repr(C)]
 pub struct ListAnswer {
     pub number: u64,
     pub place: u64,
+    // Live slots that were written to the table.
     pub elements: u64,
 }
 
+// An element's own part of the image.
 #[repr(C)]
 pub struct ViewAnswer {
     pub number: u64,
     pub place: u64,
+    // Where the part starts in the image, 0 where the element has no bytes.
     pub offset: u64,
+    // Bytes of the element.
     pub length: u64,
 }
 
+// What was copied.
 #[repr(C)]
 pub struct CopyAnswer {
     pub number: u64,
     pub place: u64,
+    // Bytes of the element.
     pub length: u64,
 }
 
+// An element's own part of one of two images.
 #[repr(C)]
 pub struct ChooseAnswer {
     pub number: u64,
     pub place: u64,
+    // 1 for the current image, 2 for the fallback.
     pub which: u64,
+    // Where the part starts in that image, 0 where the element has no bytes.
     pub offset: u64,
+    // Bytes of the element.
     pub length: u64,
 }
 
+// What an edit or an undo left.
 #[repr(C)]
 pub struct EditAnswer {
     pub number: u64,
     pub place: u64,
+    // Bytes of the new image.
     pub length: u64,
 }
 
+// Opens an image: counts its directory, or finds the first rule that it breaks.
 #[no_mangle]
 pub extern "C" fn hdf4_open(image: &[u8]) -> OpenAnswer
     ensures { λ r. ⌜ openAnswer r ≡ openOf (now (image .entry)) ⌝ }
@@ -101,6 +130,7 @@ pub extern "C" fn hdf4_open(image: &[u8]) -> OpenAnswer
     }
 }
 
+// Finds the live slot that has the base tag of a tag and a reference.
 #[no_mangle]
 pub extern "C" fn hdf4_find(image: &[u8], tag: u16, reference: u16) -> FindAnswer
     ensures { λ r. ⌜ findAnswer r ≡ findOf (now (image .entry)) tag reference ⌝ }
@@ -120,6 +150,8 @@ pub extern "C" fn hdf4_find(image: &[u8], tag: u16, reference: u16) -> FindAnswe
     }
 }
 
+// Lists the live slots in chain order to the front of a lent table: tag, reference, offset and length of each, as they are stored. A table of
+// 4 times `MOST_ELEMENTS` entries is always enough.
 #[no_mangle]
 pub extern "C" fn hdf4_list(image: &[u8], table: &mut [u32]) -> ListAnswer
     ensures { λ r. ⌜ Does (listOf (now (image .entry)) (length (now (table .entry)))) (elementsOf (now (image .entry)))
@@ -140,6 +172,7 @@ pub extern "C" fn hdf4_list(image: &[u8], table: &mut [u32]) -> ListAnswer
     }
 }
 
+// Finds an element's own part of the image. The element is plain: an extended one is refused at its slot.
 #[no_mangle]
 pub extern "C" fn hdf4_view(image: &[u8], tag: u16, reference: u16) -> ViewAnswer
     ensures { λ r. ⌜ viewAnswer r ≡ viewOf (now (image .entry)) tag reference ⌝ }
@@ -161,6 +194,8 @@ pub extern "C" fn hdf4_view(image: &[u8], tag: u16, reference: u16) -> ViewAnswe
     }
 }
 
+// Copies an element's bytes to the front of a lent output; the rest of it stays as it was. The element is plain or of linked blocks. The
+// output may not lie in the image.
 #[no_mangle]
 pub extern "C" fn hdf4_copy(image: &[u8], tag: u16, reference: u16, out: &mut [u8]) -> CopyAnswer
     ensures { λ r. ⌜ Does (copyOf (now (image .entry)) tag reference (length (now (out .entry)))) (elementBytes (now (image .entry)) tag reference)
@@ -181,6 +216,9 @@ pub extern "C" fn hdf4_copy(image: &[u8], tag: u16, reference: u16, out: &mut [u
     }
 }
 
+// Finds an element's own part of the current image or, where that has no such element, of the fallback. Both must open, and the element is
+// plain: one that is extended in the current image is refused, whatever the fallback has. A refusal by the opening of an image, or by the
+// element's storage, names a place in that image.
 #[no_mangle]
 pub extern "C" fn hdf4_choose(
     current: &[u8],
@@ -233,6 +271,14 @@ fn edit_answer(edited: Edited) -> EditAnswer
     }
 }
 
+// Edits and undo.
+//
+// The image is the first `n` bytes of a lent buffer; an `n` over the buffer's length is refused. The new image stands at the front of the
+// buffer, and the bytes behind its end stay as they were. An edit changes one descriptor, or links one new block, and appends the data and a
+// trailer that says how to undo it: the image grows by the data and at most `EDIT_ROOM` bytes more. The data may not lie in the buffer. The
+// tag is not 0, 1 or 107, and not of the extended form, 16384 to 32767.
+
+// Adds an element with its data, in the first free slot or in a new block.
 #[no_mangle]
 pub extern "C" fn hdf4_add(
     buffer: &mut [u8],
@@ -246,6 +292,7 @@ pub extern "C" fn hdf4_add(
     edit_answer(journal::add(buffer, n as usize, tag, reference, content))
 }
 
+// Gives an element other data.
 #[no_mangle]
 pub extern "C" fn hdf4_replace(
     buffer: &mut [u8],
@@ -260,6 +307,7 @@ pub extern "C" fn hdf4_replace(
     edit_answer(journal::replace(buffer, n as usize, tag, reference, content))
 }
 
+// Removes an element.
 #[no_mangle]
 pub extern "C" fn hdf4_remove(buffer: &mut [u8], n: u64, tag: u16, reference: u16) -> EditAnswer
     ensures { λ r. ⌜ Edits (removeIn (now (buffer .entry)) n tag reference) (now (buffer .entry)) (now (buffer .exit)) r ⌝ }
@@ -267,6 +315,7 @@ pub extern "C" fn hdf4_remove(buffer: &mut [u8], n: u64, tag: u16, reference: u1
     edit_answer(journal::remove(buffer, n as usize, tag, reference))
 }
 
+// Undoes the last edit that is not undone yet: the image is as before it, byte for byte.
 #[no_mangle]
 pub extern "C" fn hdf4_undo(buffer: &mut [u8], n: u64) -> EditAnswer
     ensures { λ r. ⌜ Edits (undoIn (now (buffer .entry)) n) (now (buffer .entry)) (now (buffer .exit)) r ⌝ }

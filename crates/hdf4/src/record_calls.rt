@@ -17,41 +17,59 @@ ghost use Rattle.records.specs.Arrays.{arrayOf, ReadsArray, arrayBytes, arrayPa
 ghost use Rattle.hdf4.specs.Answers.{Tells};
 ghost use Rattle.hdf4.specs.RecordAnswers.{numberTypeAnswer, dimensionAnswer, dimensionFrom, arrayAnswer, packAnswer};
 
+// A number type.
 #[repr(C)]
 pub struct NumberTypeAnswer {
     pub number: u64,
     pub place: u64,
+    // The version of the record.
     pub version: u64,
+    // C: type. The type's code, as 24 for a signed number of 32 bits.
     pub code: u64,
+    // Bits of a number.
     pub width: u64,
+    // C: number_class. How the number is written, as 1 for high byte first.
     pub class: u64,
 }
 
+// A dimension.
 #[repr(C)]
 pub struct DimensionAnswer {
     pub number: u64,
     pub place: u64,
+    // Columns.
     pub x: u64,
+    // Rows.
     pub y: u64,
+    // The tag of the number type's record.
     pub type_tag: u64,
+    // The reference of the number type's record.
     pub type_ref: u64,
+    // Numbers in each point.
     pub elements: u64,
+    // 0 by point, 1 by row, 2 by plane.
     pub interlace: u64,
+    // The tag of the record of how the image is compressed.
     pub compression_tag: u64,
+    // The reference of that record.
     pub compression_ref: u64,
 }
 
+// An array; its lists are in the tables.
 #[repr(C)]
 pub struct ArrayAnswer {
     pub number: u64,
     pub place: u64,
+    // How many sizes; there is one pair more.
     pub rank: u64,
 }
 
+// What was packed.
 #[repr(C)]
 pub struct PackAnswer {
     pub number: u64,
     pub place: u64,
+    // Bytes of the record.
     pub length: u64,
 }
 
@@ -72,6 +90,15 @@ pub(crate) fn pack_answer(packed: Packed) -> PackAnswer
     }
 }
 
+// Records.
+//
+// A record is an element in plain storage: an extended one is refused at its slot, as is one that breaks its layout. Lists are written to
+// the fronts of lent tables, a pair as its tag and its reference, one after the other; what is behind them stays as it was. A table that is
+// too short is refused with `SMALL`.
+//
+// Packing writes a record's bytes to the front of a lent output. What was read gives back the record's own bytes, up to its last field.
+
+// Reads a number type, tag 106: four bytes of any values.
 #[no_mangle]
 pub extern "C" fn hdf4_read_number_type(image: &[u8], reference: u16) -> NumberTypeAnswer
     ensures { λ r. ⌜ numberTypeAnswer r ≡ numberTypeOf (now (image .entry)) reference ⌝ }
@@ -97,6 +124,7 @@ pub extern "C" fn hdf4_read_number_type(image: &[u8], reference: u16) -> NumberT
     }
 }
 
+// Packs a number type: 4 bytes.
 #[no_mangle]
 pub extern "C" fn hdf4_pack_number_type(
     version: u8,
@@ -117,6 +145,7 @@ pub extern "C" fn hdf4_pack_number_type(
     pack_answer(number_type::pack(x, out))
 }
 
+// Reads a dimension, of tag 300, 307 or 308. The tag may be any, and is looked up by its base tag.
 #[no_mangle]
 pub extern "C" fn hdf4_read_dimension(image: &[u8], tag: u16, reference: u16) -> DimensionAnswer
     ensures { λ r. ⌜ dimensionAnswer r ≡ dimensionOf (now (image .entry)) tag reference ⌝ }
@@ -150,6 +179,7 @@ pub extern "C" fn hdf4_read_dimension(image: &[u8], tag: u16, reference: u16) ->
     }
 }
 
+// Packs a dimension: 20 bytes.
 #[no_mangle]
 pub extern "C" fn hdf4_pack_dimension(
     x: u32,
@@ -178,6 +208,7 @@ pub extern "C" fn hdf4_pack_dimension(
     pack_answer(dimension::pack(d, out))
 }
 
+// Reads an array, tag 701: its sizes, and one pair more, the data's type first.
 #[no_mangle]
 pub extern "C" fn hdf4_read_array(
     image: &[u8],
@@ -204,6 +235,7 @@ pub extern "C" fn hdf4_read_array(
     }
 }
 
+// Packs an array: 6 bytes, and 8 for each size.
 #[no_mangle]
 pub extern "C" fn hdf4_pack_array(sizes: &[u32], pairs: &[u16], out: &mut [u8]) -> PackAnswer
     ensures { λ r. ⌜ Packs (arrayPackFault (length (now (sizes .entry))) (length (now (pairs .entry))))

@@ -27,54 +27,83 @@ ghost use Rattle.vdata.specs.Values.{valueOf};
 ghost use Rattle.hdf4.specs.RecordAnswers.{packAnswer};
 ghost use Rattle.hdf4.specs.VsetAnswers.{groupAnswer, vdataAnswer, valueAnswer, HasBits, pairsAnswer, NamesFit, endingFrom, startFrom};
 
+// A Vgroup; its members are in the table.
 #[repr(C)]
 pub struct GroupAnswer {
     pub number: u64,
     pub place: u64,
+    // How many members.
     pub members: u64,
+    // C: name_offset. Where the name stands in the image.
     pub name: u64,
+    // Bytes of the name.
     pub name_length: u64,
+    // C: class_offset. Where the class stands in the image.
     pub class: u64,
+    // Bytes of the class.
     pub class_length: u64,
+    // The extension's tag.
     pub extension_tag: u64,
+    // The extension's reference.
     pub extension_ref: u64,
+    // The version: 3.
     pub version: u64,
+    // The field named more.
     pub more: u64,
 }
 
+// The head of a Vdata; its fields are in the tables.
 #[repr(C)]
 pub struct VdataAnswer {
     pub number: u64,
     pub place: u64,
+    // 0 where the values stand by record, 1 where they stand by field.
     pub interlace: u64,
+    // How many records.
     pub records: u64,
+    // Bytes of a record.
     pub record_size: u64,
+    // How many fields.
     pub fields: u64,
+    // C: name_offset. Where the name stands in the image.
     pub name: u64,
+    // Bytes of the name.
     pub name_length: u64,
+    // C: class_offset. Where the class stands in the image.
     pub class: u64,
+    // Bytes of the class.
     pub class_length: u64,
+    // The extension's tag.
     pub extension_tag: u64,
+    // The extension's reference.
     pub extension_ref: u64,
+    // The version: 3.
     pub version: u64,
+    // The field named more.
     pub more: u64,
 }
 
+// A value of a Vdata.
 #[repr(C)]
 pub struct ValueAnswer {
     pub number: u64,
     pub place: u64,
+    // `SIGNED`, `UNSIGNED`, `FLOAT32` or `FLOAT64`.
     pub kind: u64,
+    // Of a signed number its two's complement in 64 bits, of a float its own bits.
     pub bits: u64,
 }
 
+// C: hdf4_group_list_answer. What was listed of a Vgroup.
 #[repr(C)]
 pub struct PairsAnswer {
     pub number: u64,
     pub place: u64,
+    // Pairs that were written to the table.
     pub pairs: u64,
 }
 
+// Reads a Vgroup, tag 1965: tag and reference of each member.
 #[no_mangle]
 pub extern "C" fn hdf4_read_group(image: &[u8], reference: u16, members: &mut [u16]) -> GroupAnswer
     ensures { λ r. ⌜ (let s = now (image .entry) in
@@ -112,6 +141,7 @@ pub extern "C" fn hdf4_read_group(image: &[u8], reference: u16, members: &mut [u
     }
 }
 
+// Packs a Vgroup.
 #[no_mangle]
 pub extern "C" fn hdf4_pack_group(
     members: &[u16],
@@ -137,6 +167,8 @@ pub extern "C" fn hdf4_pack_group(
     pack_answer(group::pack(members, name, class, x, out))
 }
 
+// Reads the head of a Vdata, tag 1962: type, size, offset and order of each field, and place in the image and length of each field's
+// name. Tables of 4 times and 2 times `MOST_FIELDS` entries are always enough.
 #[no_mangle]
 pub extern "C" fn hdf4_read_vdata(
     image: &[u8],
@@ -196,6 +228,8 @@ pub(crate) fn vdata_answer(found: head::Answered) -> VdataAnswer
     }
 }
 
+// Packs the head of a Vdata. The fields are given by four numbers each, as they are read; by the length of each field's name; and by these
+// names one after the other.
 #[no_mangle]
 pub extern "C" fn hdf4_pack_vdata(
     interlace: u16,
@@ -275,6 +309,7 @@ fn value_answer(v: Value) -> ValueAnswer
     }
 }
 
+// Reads one value of a Vdata, its head of tag 1962 and its data of tag 1963. All indices count from 0.
 #[no_mangle]
 pub extern "C" fn hdf4_read_value(
     image: &[u8],
@@ -297,6 +332,9 @@ pub extern "C" fn hdf4_read_value(
     }
 }
 
+// Lists the members of a Vgroup in order, each member of tag 1965 followed by its own members: tag and reference of each. There are at most
+// `MOST_PAIRS` pairs, and at most 16 groups nested, the named one included. It keeps 576 bytes of stack, or 264 and 352 for each group
+// nested where that is more: 5,896 at the most.
 #[no_mangle]
 pub extern "C" fn hdf4_list_group(image: &[u8], reference: u16, list: &mut [u16]) -> PairsAnswer
     ensures { λ r. ⌜ (let s = now (image .entry) in let room = length (now (list .entry)) in

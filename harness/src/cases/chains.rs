@@ -4,9 +4,9 @@
 
 use super::check_opening;
 use super::pieces::{block, slot, FREE_SLOT};
-use crate::ffi::{Answer, Opened};
 use crate::random::Random;
 use crate::reader::{DIR_BIG, DIR_LOOP, DIR_OVER, FIRST_BYTES, MOST_BLOCKS, ON_DIRECTORY};
+use hdf4_sys::{Answer, OpenAnswer};
 
 /// A block with no slots, which joins a chain; and the head of any block.
 const SMALL_BLOCK: usize = 6;
@@ -55,21 +55,21 @@ impl Chain {
     }
 
     /// The answer where all is well, with so many blocks more, which have no slots.
-    fn opens(&self, more: usize) -> Opened {
+    fn opens(&self, more: usize) -> OpenAnswer {
         let blocks = self.places.len() as u64;
-        Opened { number: 0, place: 0, blocks: blocks + more as u64, slots: 2 * blocks, live: blocks }
+        OpenAnswer { number: 0, place: 0, blocks: blocks + more as u64, slots: 2 * blocks, live: blocks }
     }
 
     /// The slot of a block's element, where a rule about it is broken.
-    fn on_directory(&self, index: usize) -> Opened {
-        Opened::refused(ON_DIRECTORY, (self.places[index] + SMALL_BLOCK) as u64)
+    fn on_directory(&self, index: usize) -> OpenAnswer {
+        OpenAnswer::refused(ON_DIRECTORY, (self.places[index] + SMALL_BLOCK) as u64)
     }
 
     /// As it is, and with a next field that leads back to each block.
     fn check_links(&self) -> Result<usize, String> {
         check(&self.image(0), self.opens(0))?;
         for at in &self.places {
-            check(&self.image(*at), Opened::refused(DIR_LOOP, *at as u64))?;
+            check(&self.image(*at), OpenAnswer::refused(DIR_LOOP, *at as u64))?;
         }
         Ok(1 + self.places.len())
     }
@@ -90,12 +90,12 @@ impl Chain {
     }
 
     /// What a small block at a place comes to: a block too many, one on another block, or one more.
-    fn joined(&self, small: usize, meets: bool) -> Opened {
+    fn joined(&self, small: usize, meets: bool) -> OpenAnswer {
         if self.places.len() == MOST_BLOCKS {
-            return Opened::refused(DIR_BIG, small as u64);
+            return OpenAnswer::refused(DIR_BIG, small as u64);
         }
         if meets {
-            Opened::refused(DIR_OVER, small as u64)
+            OpenAnswer::refused(DIR_OVER, small as u64)
         } else {
             self.opens(1)
         }
@@ -116,7 +116,7 @@ impl Chain {
 }
 
 /// Holds one file against library and reader.
-fn check(image: &[u8], paper: Opened) -> Result<(), String> {
+fn check(image: &[u8], paper: OpenAnswer) -> Result<(), String> {
     check_opening(image, paper).map_err(|answers| format!("a chain\n{answers}\n{image:?}"))
 }
 

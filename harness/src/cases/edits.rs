@@ -4,8 +4,8 @@ use super::pieces::{FREE_SLOT, NEXT};
 use super::{A, SECOND_SLOT};
 use crate::compare::edits::{first_difference, Lending};
 use crate::editor::{Edit, Kind, Request, NO_EDIT, NO_ROOM};
-use crate::ffi::Edited;
 use crate::tally::Tally;
+use hdf4_sys::EditAnswer;
 
 /// Case 12: the slot that the add writes, and the trailer.
 const SLOT_12: [u8; 12] = [0x9c, 0x40, 0x00, 0x05, 0x00, 0x00, 0x00, 0x25, 0x00, 0x00, 0x00, 0x01];
@@ -69,7 +69,7 @@ impl Steps<'_> {
         &mut self,
         case: &str,
         request: &Request,
-        answer: Edited,
+        answer: EditAnswer,
         file: &[u8],
         edits: usize,
     ) -> Result<(), String> {
@@ -92,12 +92,12 @@ fn add(reference: u16, byte: u8) -> Request {
     Request::Edit(Edit { kind: Kind::Add, tag: 40000, reference, data: vec![byte] })
 }
 
-pub fn granted(length: u64) -> Edited {
-    Edited { number: 0, place: 0, length }
+pub fn granted(length: u64) -> EditAnswer {
+    EditAnswer { number: 0, place: 0, length }
 }
 
-pub fn refused(number: u64) -> Edited {
-    Edited { number, place: 0, length: 0 }
+pub fn refused(number: u64) -> EditAnswer {
+    EditAnswer { number, place: 0, length: 0 }
 }
 
 /// The file after case 12.

@@ -3,13 +3,15 @@
 
 use super::pieces::file;
 use crate::compare::compare_records;
-use crate::ffi::records::{self as library, Field};
+use crate::compare::vset::value_at;
 use crate::files;
+use crate::lent::Filling;
 use crate::random::Random;
 use crate::reader::SMALL;
 use crate::records::{DEEP, NO_VALUE};
 use crate::tally::Tally;
 use crate::vset::{DATA, GROUP, HEAD};
+use hdf4_sys::{self as library, Field};
 
 /// The types in the order of the Vdatas of `vdata_types.hdf`, the first of them with reference 2; sizes, and kinds of values.
 const TYPES: [(u16, usize, u64); 10] = [
@@ -40,7 +42,7 @@ type Case = Result<Vec<u8>, String>;
 fn number_types() -> Case {
     let image = files::image("dfsd.hdf")?;
     let a = library::read_number_type(&image, 2);
-    same("number type", [a.number, a.place, a.version, a.kind, a.width, a.class], [0, 0, 1, 24, 32, 1])?;
+    same("number type", [a.number, a.place, a.version, a.code, a.width, a.number_class], [0, 0, 1, 24, 32, 1])?;
     Ok(image)
 }
 
@@ -103,15 +105,15 @@ fn deep_listing() -> Case {
 /// Four fields of other types and orders, in a table of five entries and in one of three.
 fn fields() -> Case {
     let image = files::image("vdata_fields.hdf")?;
-    let field = |[number_type, size, offset, order]: [u16; 4], [name_offset, name_length]: [u32; 2]| Field {
-        number_type,
+    let field = |[code, size, offset, order]: [u16; 4], [name_offset, name_length]: [u32; 2]| Field {
+        code,
         size,
         offset,
         order,
         name_offset,
         name_length,
     };
-    let other = Field::from(9);
+    let other = Field::filled(9);
     let known = [
         field([4, 12, 0, 12], [548, 4]),
         field([5, 12, 12, 3], [554, 5]),
@@ -148,7 +150,7 @@ fn types() -> Case {
         same("name of a field", text(&image, names[0].into(), names[1].into()), *b"value")?;
         same("class", text(&image, a.class_offset, a.class_length), *b"types")?;
         for record in 0..4 {
-            let a = library::read_value(&image, reference, [record, 0, 0]);
+            let a = value_at(&image, reference, [record, 0, 0]);
             same("value", [a.number, a.place, a.kind, a.bits], [0, 0, kind, sample(record as usize * size, size)])?;
         }
     }
@@ -162,11 +164,11 @@ fn interlaces() -> Case {
         let a = library::read_vdata(&image, reference, &mut [0; 12], &mut [0; 6]);
         same("head", [a.number, a.interlace, a.records, a.record_size, a.fields], [0, interlace, 7, 12, 3])?;
         for (record, field) in (0..7).flat_map(|record| (0..3).map(move |field| (record, field))) {
-            let a = library::read_value(&image, reference, [record, field, 0]);
+            let a = value_at(&image, reference, [record, field, 0]);
             let bits = sample(12 * record as usize + 4 * field as usize, 4);
             same("value", [a.number, a.place, a.kind, a.bits], [0, 0, 2, bits])?;
         }
-        let a = library::read_value(&image, reference, [7, 0, 0]);
+        let a = value_at(&image, reference, [7, 0, 0]);
         same("value past the last record", [a.number, a.place, a.kind, a.bits], [NO_VALUE, 0, 0, 0])?;
     }
     Ok(image)
@@ -192,7 +194,7 @@ fn extremes() -> Case {
     data.extend(0xfff0_0000_0000_0001_u64.to_be_bytes());
     let image = file(&[(HEAD, 1, head), (DATA, 1, data)]).bytes();
     for (field, component, index) in [(0, 0, 0), (1, 0, 1), (2, 0, 2), (3, 0, 3), (3, 1, 4), (4, 0, 5)] {
-        let a = library::read_value(&image, 1, [0, field, component]);
+        let a = value_at(&image, 1, [0, field, component]);
         let (kind, bits) = values[index];
         same("extreme value", [a.number, a.place, a.kind, a.bits], [0, 0, kind, bits])?;
     }

@@ -1,10 +1,10 @@
 //! Opening, listing and lookup.
 
 use super::{differ, Outcome, Pairs, Trial};
-use crate::ffi::{self, Answer, Found, Listed, Opened};
 use crate::random::Random;
 use crate::reader::{base_tag, Directory, Refusal, EXTENDED, SMALL};
 use crate::tally::Call;
+use hdf4_sys::{self as library, Answer, FindAnswer, ListAnswer, OpenAnswer};
 
 const PATTERN: u32 = 0x5a5a_c3c3;
 const PAST_ROOM: usize = 8;
@@ -24,21 +24,21 @@ pub fn compare(trial: &mut Trial, pairs: Pairs) -> Outcome {
 }
 
 /// What opening must answer, by the reader.
-pub fn expected_open(directory: &Result<Directory, Refusal>) -> Opened {
+pub fn expected_open(directory: &Result<Directory, Refusal>) -> OpenAnswer {
     match directory {
-        Ok(directory) => Opened {
+        Ok(directory) => OpenAnswer {
             number: 0,
             place: 0,
             blocks: directory.blocks.len() as u64,
             slots: directory.slots.len() as u64,
             live: directory.live().count() as u64,
         },
-        Err(refusal) => Opened::refused(refusal.number, refusal.place),
+        Err(refusal) => OpenAnswer::refused(refusal.number, refusal.place),
     }
 }
 
 fn compare_open(trial: &mut Trial) -> Outcome {
-    let library = ffi::open(trial.lent.image());
+    let library = library::open(trial.lent.image());
     let reader = expected_open(&trial.directory);
     trial.same(Call::Open, &[], library, reader)
 }
@@ -60,7 +60,7 @@ fn rooms(trial: &mut Trial) -> Vec<usize> {
 fn compare_list(trial: &mut Trial, room: usize) -> Outcome {
     let (reader, written) = expected_list(&trial.directory, room);
     let mut memory = vec![PATTERN; room + PAST_ROOM];
-    let library = ffi::list(trial.lent.image(), &mut memory[..room]);
+    let library = library::list(trial.lent.image(), &mut memory[..room]);
     trial.same(Call::List, &[room], library, reader)?;
     let mut expected = vec![PATTERN; room + PAST_ROOM];
     expected[..written.len()].copy_from_slice(&written);
@@ -71,34 +71,34 @@ fn compare_list(trial: &mut Trial, room: usize) -> Outcome {
 }
 
 /// What listing must answer, by the reader, and what it must write to the front of the list.
-pub fn expected_list(directory: &Result<Directory, Refusal>, room: usize) -> (Listed, Vec<u32>) {
+pub fn expected_list(directory: &Result<Directory, Refusal>, room: usize) -> (ListAnswer, Vec<u32>) {
     let directory = match directory {
         Ok(directory) => directory,
-        Err(refusal) => return (Listed::refused(refusal.number, refusal.place), Vec::new()),
+        Err(refusal) => return (ListAnswer::refused(refusal.number, refusal.place), Vec::new()),
     };
     let list = directory.list();
     if room < list.len() {
-        return (Listed::refused(SMALL, 0), Vec::new());
+        return (ListAnswer::refused(SMALL, 0), Vec::new());
     }
     let elements = list.len() as u64 / 4;
-    (Listed { number: 0, place: 0, elements }, list)
+    (ListAnswer { number: 0, place: 0, elements }, list)
 }
 
 fn compare_find(trial: &mut Trial, tag: u16, reference: u16) -> Outcome {
-    let library = ffi::find(trial.lent.image(), tag, reference);
+    let library = library::find(trial.lent.image(), tag, reference);
     let reader = expected_find(&trial.directory, tag, reference);
     trial.same(Call::Find, &[tag.into(), reference.into()], library, reader)
 }
 
 /// What a lookup must answer, by the reader.
-pub fn expected_find(directory: &Result<Directory, Refusal>, tag: u16, reference: u16) -> Found {
+pub fn expected_find(directory: &Result<Directory, Refusal>, tag: u16, reference: u16) -> FindAnswer {
     let found = match directory {
         Ok(directory) => directory.find(tag, reference),
         Err(refusal) => Err(*refusal),
     };
     match found {
-        Ok(slot) => Found { number: 0, place: 0, slot },
-        Err(refusal) => Found::refused(refusal.number, refusal.place),
+        Ok(slot) => FindAnswer { number: 0, place: 0, slot },
+        Err(refusal) => FindAnswer::refused(refusal.number, refusal.place),
     }
 }
 

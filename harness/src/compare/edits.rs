@@ -2,10 +2,10 @@
 
 use super::Difference;
 use crate::editor::{self, Kind, Refused, Request};
-use crate::ffi::{self, Answer, Edited};
 use crate::history::History;
 use crate::lent::surround;
 use crate::tally::{Call, Tally};
+use hdf4_sys::{self as library, Answer, EditAnswer};
 use std::fmt;
 use std::hint::black_box;
 use std::ops::Range;
@@ -44,7 +44,7 @@ impl Lending {
     }
 
     /// One call on the file in the buffer.
-    pub fn call(&mut self, request: &Request, tally: &mut Tally) -> Result<Edited, Difference> {
+    pub fn call(&mut self, request: &Request, tally: &mut Tally) -> Result<EditAnswer, Difference> {
         let library = self.call_with(self.length, request, tally)?;
         if library.number == 0 {
             self.length = library.length;
@@ -59,7 +59,7 @@ impl Lending {
     }
 
     /// One call by library and editor, with any n. The history does not see it.
-    pub fn call_with(&mut self, n: u64, request: &Request, tally: &mut Tally) -> Result<Edited, Difference> {
+    pub fn call_with(&mut self, n: u64, request: &Request, tally: &mut Tally) -> Result<EditAnswer, Difference> {
         let made = editor::call(self.buffer(), n, request);
         let mut memory = self.memory.clone();
         if let Ok(file) = &made {
@@ -83,7 +83,7 @@ impl Lending {
 }
 
 /// Calls the library; it must leave the data as they were.
-fn lend(buffer: &mut [u8], n: u64, request: &Request) -> Result<Edited, Difference> {
+fn lend(buffer: &mut [u8], n: u64, request: &Request) -> Result<EditAnswer, Difference> {
     let kept = request.data().to_vec();
     let answer = call_library(buffer, n, request);
     if black_box(request.data()) != kept {
@@ -92,28 +92,28 @@ fn lend(buffer: &mut [u8], n: u64, request: &Request) -> Result<Edited, Differen
     Ok(answer)
 }
 
-pub fn call_library(buffer: &mut [u8], n: u64, request: &Request) -> Edited {
-    let Request::Edit(edit) = request else { return ffi::undo(buffer, n) };
+pub fn call_library(buffer: &mut [u8], n: u64, request: &Request) -> EditAnswer {
+    let Request::Edit(edit) = request else { return library::undo(buffer, n) };
     match edit.kind {
-        Kind::Add => ffi::add(buffer, n, edit.tag, edit.reference, &edit.data),
-        Kind::Replace => ffi::replace(buffer, n, edit.tag, edit.reference, &edit.data),
-        Kind::Remove => ffi::remove(buffer, n, edit.tag, edit.reference),
+        Kind::Add => library::add(buffer, n, edit.tag, edit.reference, &edit.data),
+        Kind::Replace => library::replace(buffer, n, edit.tag, edit.reference, &edit.data),
+        Kind::Remove => library::remove(buffer, n, edit.tag, edit.reference),
     }
 }
 
 /// What the library must answer: the new length, or the refusal.
-pub fn expected(outcome: Result<u64, Refused>) -> Edited {
+pub fn expected(outcome: Result<u64, Refused>) -> EditAnswer {
     match outcome {
-        Ok(length) => Edited { number: 0, place: 0, length },
-        Err(Refused { refusal, .. }) => Edited::refused(refusal.number, refusal.place),
+        Ok(length) => EditAnswer { number: 0, place: 0, length },
+        Err(Refused { refusal, .. }) => EditAnswer::refused(refusal.number, refusal.place),
     }
 }
 
 pub fn same_answer(
     request: &Request,
-    library: Edited,
+    library: EditAnswer,
     judge: &'static str,
-    expected: Edited,
+    expected: EditAnswer,
 ) -> Result<(), Difference> {
     if library != expected {
         return Err(differ(request, format!("{library:?}"), judge, format!("{expected:?}")));

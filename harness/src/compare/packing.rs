@@ -3,12 +3,13 @@
 use super::edits::first_difference;
 use super::records::{answer, cause_of};
 use super::{Difference, Outcome};
-use crate::ffi::records::{self as library, Packed};
-use crate::ffi::Answer;
 use crate::lent::Table;
 use crate::packing::{self, Record};
 use crate::random::Random;
+use crate::records::Dimension;
 use crate::tally::{Call, Tally};
+use crate::vset::{Group, Tail, Vdata};
+use hdf4_sys::{self as library, Answer, PackAnswer};
 use std::hint::black_box;
 
 const MOST_SHOWN: usize = 500;
@@ -41,7 +42,7 @@ pub fn compare_with(record: &Record, bytes: &[u8], random: &mut Random, tally: &
 
 fn compare_in(record: &Record, room: usize, tally: &mut Tally) -> Outcome {
     let (kept, mut out) = (record.clone(), Table::new(room));
-    let library = library::pack(record, out.lend());
+    let library = call_library(record, out.lend());
     let packing = packing::pack(record, room);
     let expected = answer(&packing, |bytes| packed(bytes));
     if library != expected {
@@ -58,8 +59,48 @@ fn compare_in(record: &Record, room: usize, tally: &mut Tally) -> Outcome {
     Ok(())
 }
 
-pub fn packed(bytes: &[u8]) -> Packed {
-    Packed { length: bytes.len() as u64, ..Packed::default() }
+/// What the library answers to a record that it is to pack.
+pub fn call_library(record: &Record, out: &mut [u8]) -> PackAnswer {
+    match record {
+        Record::NumberType(n) => library::pack_number_type(n.version, n.kind, n.width, n.class, out),
+        Record::Dimension(dimension) => pack_dimension(dimension, out),
+        Record::Array(array) => library::pack_array(&array.sizes, &array.pairs, out),
+        Record::Group(group) => pack_group(group, out),
+        Record::Vdata(vdata) => pack_vdata(vdata, out),
+    }
+}
+
+fn pack_dimension(dimension: &Dimension, out: &mut [u8]) -> PackAnswer {
+    let Dimension { x, y, type_tag, type_ref, elements, interlace, compression_tag, compression_ref } = *dimension;
+    library::pack_dimension(x, y, type_tag, type_ref, elements, interlace, compression_tag, compression_ref, out)
+}
+
+fn pack_group(Group { members, tail }: &Group, out: &mut [u8]) -> PackAnswer {
+    let Tail { name, class, extension_tag, extension_ref, version, more } = tail;
+    library::pack_group(members, name, class, *extension_tag, *extension_ref, *version, *more, out)
+}
+
+fn pack_vdata(vdata: &Vdata, out: &mut [u8]) -> PackAnswer {
+    let tail = &vdata.tail;
+    library::pack_vdata(
+        vdata.interlace,
+        vdata.records,
+        vdata.record_size,
+        &vdata.fields,
+        &vdata.name_lengths,
+        &vdata.names,
+        &tail.name,
+        &tail.class,
+        tail.extension_tag,
+        tail.extension_ref,
+        tail.version,
+        tail.more,
+        out,
+    )
+}
+
+pub fn packed(bytes: &[u8]) -> PackAnswer {
+    PackAnswer { length: bytes.len() as u64, ..PackAnswer::default() }
 }
 
 fn differ(record: &Record, room: usize, library: String, expected: String) -> Difference {

@@ -1,14 +1,13 @@
 //! Records: number types, dimensions and arrays; and which record is read by which call.
 
 use super::{differ, packing, vset, Outcome, Pairs, Trial};
-use crate::ffi::records::{self as library, ArrayRead, DimensionRead, NumberTypeRead};
-use crate::ffi::Answer;
-use crate::lent::Table;
+use crate::lent::{Filling, Table};
 use crate::packing::Record;
 use crate::reader::{Directory, EXTENDED};
 use crate::records::{self, Array, Cause, Dimension, Found, NumberType, Reading, ARRAY, DIMENSIONS, NUMBER_TYPE};
 use crate::tally::Call;
 use crate::vset::{DATA, GROUP, HEAD};
+use hdf4_sys::{self as library, Answer, ArrayAnswer, DimensionAnswer, NumberTypeAnswer};
 use std::fmt::Debug;
 
 /// The tags of records, one for each kind.
@@ -80,13 +79,13 @@ fn compare_number_type(trial: &mut Trial, reference: u16) -> Outcome {
     pack_again(trial, reading, Record::NumberType)
 }
 
-pub fn number_type_read(found: &Found<NumberType>) -> NumberTypeRead {
-    NumberTypeRead {
+pub fn number_type_read(found: &Found<NumberType>) -> NumberTypeAnswer {
+    NumberTypeAnswer {
         version: found.record.version.into(),
-        kind: found.record.kind.into(),
+        code: found.record.kind.into(),
         width: found.record.width.into(),
-        class: found.record.class.into(),
-        ..NumberTypeRead::default()
+        number_class: found.record.class.into(),
+        ..NumberTypeAnswer::default()
     }
 }
 
@@ -99,8 +98,8 @@ fn compare_dimension(trial: &mut Trial, tag: u16, reference: u16) -> Outcome {
     pack_again(trial, reading, Record::Dimension)
 }
 
-pub fn dimension_read(found: &Found<Dimension>) -> DimensionRead {
-    DimensionRead {
+pub fn dimension_read(found: &Found<Dimension>) -> DimensionAnswer {
+    DimensionAnswer {
         x: found.record.x.into(),
         y: found.record.y.into(),
         type_tag: found.record.type_tag.into(),
@@ -109,7 +108,7 @@ pub fn dimension_read(found: &Found<Dimension>) -> DimensionRead {
         interlace: found.record.interlace.into(),
         compression_tag: found.record.compression_tag.into(),
         compression_ref: found.record.compression_ref.into(),
-        ..DimensionRead::default()
+        ..DimensionAnswer::default()
     }
 }
 
@@ -133,8 +132,8 @@ fn compare_array_in(trial: &mut Trial, reference: u16, rooms: [usize; 2]) -> Out
     holds(Call::ReadArray, &arguments, &pairs, written.map_or(&[], |array| &array.pairs))
 }
 
-pub fn array_read(found: &Found<Array>) -> ArrayRead {
-    ArrayRead { rank: found.record.sizes.len() as u64, ..ArrayRead::default() }
+pub fn array_read(found: &Found<Array>) -> ArrayAnswer {
+    ArrayAnswer { rank: found.record.sizes.len() as u64, ..ArrayAnswer::default() }
 }
 
 /// Rooms for a table: exactly enough, one entry too little, more than enough, and none.
@@ -164,7 +163,7 @@ pub fn pack_again<T>(trial: &mut Trial, reading: Reading<Found<T>>, record: fn(T
 /// What a call wrote to the front of a table, the rest of it being as it was.
 pub fn holds<T>(call: Call, arguments: &[usize], table: &Table<T>, written: &[T]) -> Outcome
 where
-    T: Copy + Debug + PartialEq + From<u8>,
+    T: Copy + Debug + PartialEq + Filling,
 {
     match table.difference(written) {
         Some(difference) => differ(call, arguments, difference, "other entries in the table".into()),

@@ -2,12 +2,12 @@
 
 use super::edits::first_difference;
 use super::{differ, Outcome, Pairs, Trial};
-use crate::ffi::{self, Answer, Chosen, Copied, Viewed};
 use crate::lent::{surround, Lent};
 use crate::random::Random;
 use crate::reader::{self, base_tag, Directory, EXTENDED};
 use crate::storage::{self, is_extended, Opening, Reading, Way};
 use crate::tally::{Call, Tally};
+use hdf4_sys::{self as library, Answer, ChooseAnswer, CopyAnswer, ViewAnswer};
 use std::ops::Range;
 
 const PATTERN: u8 = 0xc3;
@@ -72,20 +72,20 @@ fn rooms(trial: &mut Trial, tag: u16, reference: u16) -> Vec<usize> {
 }
 
 fn compare_view(trial: &mut Trial, tag: u16, reference: u16) -> Outcome {
-    let library = ffi::view(trial.lent.image(), tag, reference);
+    let library = library::view(trial.lent.image(), tag, reference);
     let reading = storage::view(&trial.directory, tag, reference);
     trial.tally.count_way(Call::View, way_of(&reading));
     trial.same(Call::View, &[tag.into(), reference.into()], library, answer(reading, viewed))
 }
 
-pub fn viewed(part: Range<u64>) -> Viewed {
-    Viewed { offset: part.start, length: part.end - part.start, ..Viewed::default() }
+pub fn viewed(part: Range<u64>) -> ViewAnswer {
+    ViewAnswer { offset: part.start, length: part.end - part.start, ..ViewAnswer::default() }
 }
 
 fn compare_copy(trial: &mut Trial, tag: u16, reference: u16, room: usize) -> Outcome {
     let arguments = [tag.into(), reference.into(), room];
     let mut memory = vec![PATTERN; room + PAST_ROOM];
-    let library = ffi::copy(trial.lent.image(), tag, reference, &mut memory[..room]);
+    let library = library::copy(trial.lent.image(), tag, reference, &mut memory[..room]);
 
     let reading = storage::copy(trial.lent.image(), &trial.directory, tag, reference, room);
     trial.tally.count_way(Call::Copy, way_of(&reading));
@@ -100,8 +100,8 @@ fn compare_copy(trial: &mut Trial, tag: u16, reference: u16, room: usize) -> Out
     }
 }
 
-pub fn copied(bytes: Vec<u8>) -> Copied {
-    Copied { length: bytes.len() as u64, ..Copied::default() }
+pub fn copied(bytes: Vec<u8>) -> CopyAnswer {
+    CopyAnswer { length: bytes.len() as u64, ..CopyAnswer::default() }
 }
 
 /// Two images lent at once.
@@ -147,7 +147,7 @@ fn compare_lent_two(two: &Two, random: &mut Random, tally: &mut Tally) -> Outcom
 fn compare_choose(two: &Two, tag: u16, reference: u16, tally: &mut Tally) -> Outcome {
     let arguments = [tag.into(), reference.into()];
     let [current, fallback] = &two.openings;
-    let library = ffi::choose(two.current.image(), two.fallback.image(), tag, reference);
+    let library = library::choose(two.current.image(), two.fallback.image(), tag, reference);
     let reading = storage::choose(current, fallback, tag, reference);
     tally.count_way(Call::Choose, way_of(&reading));
     let expected = answer(reading, chosen);
@@ -161,8 +161,8 @@ fn compare_choose(two: &Two, tag: u16, reference: u16, tally: &mut Tally) -> Out
     Ok(())
 }
 
-pub fn chosen((which, part): (u64, Range<u64>)) -> Chosen {
-    Chosen { which, offset: part.start, length: part.end - part.start, ..Chosen::default() }
+pub fn chosen((which, part): (u64, Range<u64>)) -> ChooseAnswer {
+    ChooseAnswer { which, offset: part.start, length: part.end - part.start, ..ChooseAnswer::default() }
 }
 
 /// What the library must answer.

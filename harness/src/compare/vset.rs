@@ -2,13 +2,13 @@
 
 use super::records::{holds, pack_again, rooms, two_rooms};
 use super::{Outcome, Trial};
-use crate::ffi::records::{self as library, Field, GroupListed, GroupRead, ValueRead, VdataRead};
 use crate::lent::Table;
 use crate::packing::Record;
 use crate::random::Random;
 use crate::records::Found;
 use crate::tally::Call;
 use crate::vset::{self, Group, Value, Vdata, FIELD};
+use hdf4_sys::{self as library, Field, GroupAnswer, GroupListAnswer, ValueAnswer, VdataAnswer};
 
 /// How many values of a Vdata are read, each of them where there are no more.
 pub const FEW_VALUES: usize = 8;
@@ -41,9 +41,9 @@ fn compare_group_in(trial: &mut Trial, reference: u16, room: usize) -> Outcome {
     holds(Call::ReadGroup, &arguments, &members, written)
 }
 
-pub fn group_read(found: &Found<Group>) -> GroupRead {
+pub fn group_read(found: &Found<Group>) -> GroupAnswer {
     let Group { members, tail } = &found.record;
-    GroupRead {
+    GroupAnswer {
         members: members.len() as u64 / 2,
         name_offset: found.names[0],
         name_length: tail.name.len() as u64,
@@ -53,7 +53,7 @@ pub fn group_read(found: &Found<Group>) -> GroupRead {
         extension_ref: tail.extension_ref.into(),
         version: tail.version.into(),
         more: tail.more.into(),
-        ..GroupRead::default()
+        ..GroupAnswer::default()
     }
 }
 
@@ -76,8 +76,8 @@ fn compare_list(trial: &mut Trial, reference: u16, room: usize) -> Outcome {
     holds(Call::ListGroup, &arguments, &list, reading.as_ref().map_or(&[], |(pairs, _)| pairs))
 }
 
-pub fn group_listed(pairs: &[u16]) -> GroupListed {
-    GroupListed { pairs: pairs.len() as u64 / 2, ..GroupListed::default() }
+pub fn group_listed(pairs: &[u16]) -> GroupListAnswer {
+    GroupListAnswer { pairs: pairs.len() as u64 / 2, ..GroupListAnswer::default() }
 }
 
 /// Reads the head of a Vdata by both its calls, packs it again, and reads some or all of its values.
@@ -129,7 +129,7 @@ fn compare_fields(trial: &mut Trial, reference: u16, room: usize) -> Outcome {
 pub fn fields_of(found: &Found<Vdata>) -> Vec<Field> {
     let names = found.names.iter().zip(&found.record.name_lengths);
     let field = |(field, (place, length)): (vset::Field, (&u64, &u16))| Field {
-        number_type: field.number_type,
+        code: field.number_type,
         size: field.size,
         offset: field.offset,
         order: field.order,
@@ -139,10 +139,10 @@ pub fn fields_of(found: &Found<Vdata>) -> Vec<Field> {
     found.record.field_list().zip(names).map(field).collect()
 }
 
-pub fn vdata_read(found: &Found<Vdata>) -> VdataRead {
+pub fn vdata_read(found: &Found<Vdata>) -> VdataAnswer {
     let Vdata { interlace, records, record_size, name_lengths, tail, .. } = &found.record;
     let fields = name_lengths.len();
-    VdataRead {
+    VdataAnswer {
         interlace: (*interlace).into(),
         records: (*records).into(),
         record_size: (*record_size).into(),
@@ -155,13 +155,13 @@ pub fn vdata_read(found: &Found<Vdata>) -> VdataRead {
         extension_ref: tail.extension_ref.into(),
         version: tail.version.into(),
         more: tail.more.into(),
-        ..VdataRead::default()
+        ..VdataAnswer::default()
     }
 }
 
 fn compare_value(trial: &mut Trial, reference: u16, indices: [u64; 3]) -> Outcome {
     let [record, field, component] = indices.map(|index| index as usize);
-    let library = library::read_value(trial.lent.image(), reference, indices);
+    let library = value_at(trial.lent.image(), reference, indices);
     let reading = vset::read_value(trial.lent.image(), &trial.directory, reference, indices);
     if let Ok((value, cause)) = &reading {
         trial.tally.count_value(value.number_type, *cause);
@@ -170,8 +170,13 @@ fn compare_value(trial: &mut Trial, reference: u16, indices: [u64; 3]) -> Outcom
     trial.judge(Call::ReadValue, &arguments, library, &reading, value_read)
 }
 
-pub fn value_read(value: &Value) -> ValueRead {
-    ValueRead { kind: value.kind, bits: value.bits, ..ValueRead::default() }
+/// What the library answers for a value, by the indices of its record, field and component.
+pub fn value_at(image: &[u8], reference: u16, [record, field, component]: [u64; 3]) -> ValueAnswer {
+    library::read_value(image, reference, record, field, component)
+}
+
+pub fn value_read(value: &Value) -> ValueAnswer {
+    ValueAnswer { kind: value.kind, bits: value.bits, ..ValueAnswer::default() }
 }
 
 /// The indices of all values in a Vdata or, where there are too many, of some; and indices just and far too large.

@@ -3,9 +3,9 @@
 use super::MOST;
 use crate::compare::edits::{call_library, expected, first_difference, same_answer};
 use crate::editor::{self, slot, Change, Edit, Kind, Reason, Refused, Request, BLOCK_SIZE, TRAILER_SIZE};
-use crate::ffi::Edited;
 use crate::reader::{FIRST_BYTES, FREE, MOST_BLOCKS};
 use crate::tally::Tally;
+use hdf4_sys::EditAnswer;
 
 const WATCHED: usize = 4096;
 const PAST_LIMIT: usize = 300;
@@ -136,7 +136,7 @@ impl Long<'_> {
         outcome: Result<u64, Refused>,
         watched: &Watched,
     ) -> Result<(), String> {
-        let library: Edited = call_library(self.buffer, n as u64, request);
+        let library: EditAnswer = call_library(self.buffer, n as u64, request);
         let same = same_answer(request, library, "editor", expected(outcome));
         same.map_err(|difference| difference.to_string())?;
         self.tally.count(request.call(), library.number);

@@ -1,10 +1,10 @@
 //! Linked elements that claim to be of the greatest length, with room for all of it. Their one block is short, so nothing is
 //! written.
 
-use crate::ffi::{self, Answer, Copied};
 use crate::reader::{self, FIRST_BYTES};
 use crate::storage;
 use crate::tally::{Call, Tally};
+use hdf4_sys::{self as library, Answer, CopyAnswer};
 
 const MOST: u32 = u32::MAX;
 
@@ -13,10 +13,10 @@ pub fn compare_long_copies(room: &mut [u8], tally: &mut Tally) -> Result<(), Str
     for lengths in [[MOST, MOST, MOST], [MOST, 5, MOST], [MOST, 1, MOST - 1], [1 << 31, 5, 1 << 31], [MOST, MOST, 1]] {
         let image = image(lengths);
         let before = ends(room);
-        let library = ffi::copy(&image, 100, 1, room);
+        let library = library::copy(&image, 100, 1, room);
         let reading = storage::copy(&image, &reader::open(&image), 100, 1, room.len());
         let Err(refused) = reading else { return Err(format!("{lengths:?}: granted by the reader")) };
-        let expected = Copied::refused(refused.refusal.number, refused.refusal.place);
+        let expected = CopyAnswer::refused(refused.refusal.number, refused.refusal.place);
         if library != expected || ends(room) != before {
             return Err(format!("copy of {lengths:?}\nlibrary {library:?}\nreader  {expected:?}"));
         }

@@ -2,11 +2,11 @@
 
 use crate::cases::pieces::Image;
 use crate::editor::{Edit, Kind, Request};
-use crate::ffi::records::Field;
 use crate::packing::Record;
 use crate::records::{Array, Dimension};
 use crate::tally::Call;
 use crate::vset::{Group, Vdata};
+use hdf4_sys::Field;
 
 /// A call. Each takes some of these arguments.
 #[derive(Clone, Debug)]

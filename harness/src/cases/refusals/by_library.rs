@@ -3,12 +3,13 @@
 use super::ask::{Ask, Rooms, Written};
 use crate::cases::pieces::Image;
 use crate::compare::edits::{call_library, first_difference};
+use crate::compare::packing;
+use crate::compare::vset::value_at;
 use crate::editor::Request;
-use crate::ffi::records::{self, Field};
-use crate::ffi::{self, Answer};
 use crate::lent::{surround, Lent, Table};
 use crate::packing::Record;
 use crate::tally::Call;
+use hdf4_sys::{self as library, Answer, Field};
 use std::hint::black_box;
 use std::ops::Range;
 
@@ -67,27 +68,27 @@ fn call(ask: &Ask, image: &[u8], fallback: &[u8], tables: &mut Tables) -> Vec<u6
     let Ask { tag, reference, .. } = *ask;
     let Tables { bytes, shorts, longs, fields } = tables;
     match ask.call {
-        Call::Open => ffi::open(image).numbers(),
-        Call::Find => ffi::find(image, tag, reference).numbers(),
-        Call::List => ffi::list(image, longs.lend()).numbers(),
-        Call::View => ffi::view(image, tag, reference).numbers(),
-        Call::Copy => ffi::copy(image, tag, reference, bytes.lend()).numbers(),
-        Call::Choose => ffi::choose(image, fallback, tag, reference).numbers(),
-        Call::ReadNumberType => records::read_number_type(image, reference).numbers(),
-        Call::ReadDimension => records::read_dimension(image, tag, reference).numbers(),
-        Call::ReadArray => records::read_array(image, reference, longs.lend(), shorts.lend()).numbers(),
-        Call::ReadGroup => records::read_group(image, reference, shorts.lend()).numbers(),
-        Call::ReadVdata => records::read_vdata(image, reference, shorts.lend(), longs.lend()).numbers(),
-        Call::ReadFields => records::read_fields(image, reference, fields.lend()).numbers(),
-        Call::ReadValue => records::read_value(image, reference, ask.indices).numbers(),
-        Call::ListGroup => records::list_group(image, reference, shorts.lend()).numbers(),
+        Call::Open => library::open(image).numbers(),
+        Call::Find => library::find(image, tag, reference).numbers(),
+        Call::List => library::list(image, longs.lend()).numbers(),
+        Call::View => library::view(image, tag, reference).numbers(),
+        Call::Copy => library::copy(image, tag, reference, bytes.lend()).numbers(),
+        Call::Choose => library::choose(image, fallback, tag, reference).numbers(),
+        Call::ReadNumberType => library::read_number_type(image, reference).numbers(),
+        Call::ReadDimension => library::read_dimension(image, tag, reference).numbers(),
+        Call::ReadArray => library::read_array(image, reference, longs.lend(), shorts.lend()).numbers(),
+        Call::ReadGroup => library::read_group(image, reference, shorts.lend()).numbers(),
+        Call::ReadVdata => library::read_vdata(image, reference, shorts.lend(), longs.lend()).numbers(),
+        Call::ReadFields => library::read_fields(image, reference, fields.lend()).numbers(),
+        Call::ReadValue => value_at(image, reference, ask.indices).numbers(),
+        Call::ListGroup => library::list_group(image, reference, shorts.lend()).numbers(),
         other => panic!("{other:?} reads no image"),
     }
 }
 
 fn pack(record: &Record, rooms: Rooms, written: &Written) -> Outcome {
     let (kept, mut tables) = (record.clone(), Tables::new(rooms));
-    let numbers = records::pack(record, tables.bytes.lend()).numbers();
+    let numbers = packing::call_library(record, tables.bytes.lend()).numbers();
     let altered = *black_box(record) != kept;
     (numbers, altered.then(|| "altered what it was given".into()).or(tables.difference(written)))
 }

@@ -8,13 +8,13 @@ use crate::compare::records::{answer, array_read, dimension_read, number_type_re
 use crate::compare::storage::{self as compared, chosen, copied, viewed};
 use crate::compare::vset::{field_names, fields_of, group_listed, group_read, value_read, vdata_read};
 use crate::editor::{self, Request};
-use crate::ffi;
 use crate::packing;
 use crate::reader;
 use crate::records;
 use crate::storage::{self, Opening};
 use crate::tally::Call;
 use crate::vset;
+use hdf4_sys as library;
 
 pub fn answer_to(ask: &Ask) -> Answer {
     match (ask.request(), &ask.record) {
@@ -114,10 +114,10 @@ fn read_head(call: Call, image: &[u8], opening: &Opening, reference: u16, rooms:
 }
 
 /// An answer of a call that is lent nothing.
-fn only<A: ffi::Answer>(answer: A) -> Answer {
+fn only<A: library::Answer>(answer: A) -> Answer {
     with(answer, Written::default())
 }
 
-fn with<A: ffi::Answer>(answer: A, written: Written) -> Answer {
+fn with<A: library::Answer>(answer: A, written: Written) -> Answer {
     Answer { numbers: answer.numbers(), written }
 }

@@ -3,8 +3,8 @@
 use super::ask::{Ask, Rooms, Written};
 use super::{fault, granted, over, Case, Fault};
 use crate::cases::pieces::{file, numbers16, numbers32, text, Image};
-use crate::ffi::records::Field;
 use crate::tally::Call;
+use hdf4_sys::Field;
 
 /// The slots of head and data, and of a second head where there is one.
 const HEAD: usize = 22;
@@ -117,8 +117,8 @@ fn read_fields() -> Case {
     let rooms = Rooms { fields: 3, ..Rooms::default() };
     let ask = Ask { reference: 1, rooms, ..Ask::on(Call::ReadFields, vdata()) };
     let fields = vec![
-        Field { number_type: 22, size: 2, offset: 0, order: 1, name_offset: 86, name_length: 1 },
-        Field { number_type: 24, size: 4, offset: 2, order: 1, name_offset: 89, name_length: 2 },
+        Field { code: 22, size: 2, offset: 0, order: 1, name_offset: 86, name_length: 1 },
+        Field { code: 24, size: 4, offset: 2, order: 1, name_offset: 89, name_length: 2 },
     ];
     granted("two fields", ask, &NUMBERS, Written { fields, ..Written::default() })
 }
@@ -212,7 +212,7 @@ fn long(count: u16) -> Vec<u8> {
 
 fn long_field(index: u16) -> Field {
     let name_offset = 2118 + 2 * u32::from(index);
-    Field { number_type: 20, size: 1, offset: index, order: 1, name_offset, name_length: 0 }
+    Field { code: 20, size: 1, offset: index, order: 1, name_offset, name_length: 0 }
 }
 
 /// Head and data of 1962/1: two records of two fields, of 2 and 4 bytes. The head stands at 58, the data at 105.

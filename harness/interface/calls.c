@@ -1,0 +1,262 @@
+/* Makes every call of the library with arguments that differ from one another, and compares each number of its answer, and all that it
+ * wrote, with what is written down here. */
+#include <stdio.h>
+#include <string.h>
+
+#include "hdf4.h"
+#include "bytes.h"
+#include "file.h"
+#include "need.h"
+
+enum { BEHIND = 0xee };
+
+static uint8_t file[FILE_LENGTH];
+static uint8_t small[SMALL_LENGTH];
+static uint8_t out[100];
+
+/* A lent output before a call. */
+static void fill(void)
+{
+    memset(out, BEHIND, sizeof out);
+}
+
+/* Whether the output has these bytes at its front, and behind them what it had. */
+static int holds(const void *bytes, size_t length)
+{
+    uint8_t expected[sizeof out];
+    memset(expected, BEHIND, sizeof expected);
+    memcpy(expected, bytes, length);
+    return memcmp(out, expected, sizeof out) == 0;
+}
+
+static void open_and_find(void)
+{
+    hdf4_open_answer o = hdf4_open(file, 398);
+    need(o.number == 0 && o.place == 0 && o.blocks == 2 && o.slots == 11 && o.live == 9, "hdf4_open");
+    o = hdf4_open(file, 397);
+    need(o.number == HDF4_OUTSIDE && o.place == 124 && o.blocks == 0 && o.slots == 0 && o.live == 0, "hdf4_open, refused");
+
+    hdf4_find_answer f = hdf4_find(file, 398, 1965, 5);
+    need(f.number == 0 && f.place == 0 && f.slot == 58, "hdf4_find");
+    f = hdf4_find(file, 397, 1965, 5);
+    need(f.number == HDF4_OUTSIDE && f.place == 124 && f.slot == 0, "hdf4_find, refused");
+
+    uint32_t table[37];
+    memset(table, BEHIND, sizeof table);
+    hdf4_list_answer l = hdf4_list(file, 398, table, 37);
+    need(l.number == 0 && l.place == 0 && l.elements == 9, "hdf4_list");
+    need(memcmp(table, file_slots, sizeof file_slots) == 0 && table[36] == 0xeeeeeeee, "the table of hdf4_list");
+    l = hdf4_list(file, 397, table, 37);
+    need(l.number == HDF4_OUTSIDE && l.place == 124 && l.elements == 0, "hdf4_list, refused");
+    need(hdf4_list(file, 398, table, 35).number == HDF4_SMALL, "hdf4_list without room");
+}
+
+static void view_and_copy(void)
+{
+    hdf4_view_answer v = hdf4_view(file, 398, 100, 1);
+    need(v.number == 0 && v.place == 0 && v.offset == 367 && v.length == 9, "hdf4_view");
+    v = hdf4_view(file, 398, 100, 9);
+    need(v.number == HDF4_STORAGE && v.place == 124 && v.offset == 0 && v.length == 0, "hdf4_view, refused");
+
+    fill();
+    hdf4_copy_answer c = hdf4_copy(file, 398, 100, 1, out, 10);
+    need(c.number == 0 && c.place == 0 && c.length == 9 && holds("hub roads", 9), "hdf4_copy");
+    fill();
+    c = hdf4_copy(file, 398, 100, 9, out, 10);
+    need(c.number == HDF4_STORAGE && c.place == 124 && c.length == 0 && holds("", 0), "hdf4_copy, refused");
+    need(hdf4_copy(file, 398, 100, 1, out, 8).number == HDF4_SMALL, "hdf4_copy without room");
+
+    hdf4_choose_answer h = hdf4_choose(small, 37, file, 398, 1965, 5);
+    need(h.number == 0 && h.place == 0 && h.which == 2 && h.offset == 227 && h.length == 18, "hdf4_choose, the fallback");
+    h = hdf4_choose(small, 37, file, 398, 100, 1);
+    need(h.number == 0 && h.place == 0 && h.which == 1 && h.offset == 34 && h.length == 3, "hdf4_choose, the current one");
+    h = hdf4_choose(small, 37, file, 397, 100, 1);
+    need(h.number == HDF4_OUTSIDE && h.place == 124 && h.which == 0 && h.offset == 0 && h.length == 0, "hdf4_choose, refused");
+}
+
+static void edit_and_undo(void)
+{
+    static const uint8_t mark[] = {0x2a, 0x2b, 0x2c}, other[] = {5, 4, 3, 2, 1};
+    uint8_t buffer[400];
+    memset(buffer, BEHIND, sizeof buffer);
+    memcpy(buffer, small, sizeof small);
+
+    hdf4_edit_answer e = hdf4_add(buffer, 400, 37, 40000, 5, mark, 3);
+    need(e.number == 0 && e.place == 0 && e.length == 72, "hdf4_add");
+    need(hdf4_find(buffer, 72, 40000, 5).slot == 22 && memcmp(buffer + 37, mark, 3) == 0, "what hdf4_add wrote");
+    need(buffer[72] == BEHIND, "what is behind the new image");
+
+    e = hdf4_replace(buffer, 400, 72, 40000, 5, other, 4);
+    need(e.number == 0 && e.place == 0 && e.length == 108, "hdf4_replace");
+    hdf4_view_answer v = hdf4_view(buffer, 108, 40000, 5);
+    need(v.offset == 72 && v.length == 4 && memcmp(buffer + 72, other, 4) == 0, "what hdf4_replace wrote");
+
+    e = hdf4_remove(buffer, 400, 108, 100, 1);
+    need(e.number == 0 && e.place == 0 && e.length == 140, "hdf4_remove");
+    need(hdf4_find(buffer, 140, 100, 1).number == HDF4_ABSENT, "what hdf4_remove left");
+    need(hdf4_find(buffer, 140, 40000, 5).number == 0, "what hdf4_remove let be");
+
+    buffer[139] ^= 1;
+    e = hdf4_undo(buffer, 400, 140);
+    need(e.number == HDF4_NO_EDIT && e.place == 0 && e.length == 0, "hdf4_undo, refused");
+    buffer[139] ^= 1;
+    buffer[135] ^= 1;
+    e = hdf4_undo(buffer, 400, 140);
+    need(e.number == HDF4_BAD_TRAILER && e.place == 108 && e.length == 0, "hdf4_undo of a broken trailer");
+    buffer[135] ^= 1;
+
+    e = hdf4_undo(buffer, 400, 140);
+    need(e.number == 0 && e.place == 0 && e.length == 108, "hdf4_undo");
+    need(hdf4_undo(buffer, 400, 108).length == 72 && hdf4_undo(buffer, 400, 72).length == 37, "hdf4_undo, twice more");
+    need(memcmp(buffer, small, sizeof small) == 0, "the image as it was");
+
+    need(hdf4_add(buffer, 36, 37, 40000, 5, mark, 3).number == HDF4_TOO_LONG, "hdf4_add of a longer image than the buffer");
+    need(hdf4_replace(buffer, 36, 37, 100, 1, mark, 3).number == HDF4_TOO_LONG, "hdf4_replace of a longer image than the buffer");
+    need(hdf4_remove(buffer, 36, 37, 100, 1).number == HDF4_TOO_LONG, "hdf4_remove from a longer image than the buffer");
+    need(hdf4_undo(buffer, 36, 37).number == HDF4_TOO_LONG, "hdf4_undo of a longer image than the buffer");
+}
+
+/* The room that an edit asks for at the most: it is granted with so much, and refused with a byte less. */
+static void edit_room(void)
+{
+    static const uint8_t data[] = {7, 6, 5, 4};
+    uint8_t buffer[72 + 4 + HDF4_EDIT_ROOM] = {0};
+    memcpy(buffer, small, sizeof small);
+    need(hdf4_add(buffer, sizeof buffer, 37, 40000, 5, data, 3).length == 72, "the last free slot");
+    need(hdf4_add(buffer, sizeof buffer - 1, 72, 40000, 6, data, 4).number == HDF4_NO_ROOM, "a byte less than HDF4_EDIT_ROOM");
+    need(hdf4_add(buffer, sizeof buffer, 72, 40000, 6, data, 4).length == sizeof buffer, "HDF4_EDIT_ROOM");
+}
+
+static void records(void)
+{
+    hdf4_number_type_answer t = hdf4_read_number_type(file, 398, 7);
+    need(t.number == 0 && t.place == 0, "hdf4_read_number_type");
+    need(t.version == 1 && t.type == 24 && t.width == 32 && t.number_class == 4, "the number type");
+    t = hdf4_read_number_type(file, 397, 7);
+    need(t.number == HDF4_OUTSIDE && t.place == 124 && t.version == 0, "hdf4_read_number_type, refused");
+    fill();
+    hdf4_pack_answer p = hdf4_pack_number_type(1, 24, 32, 4, out, 5);
+    need(p.number == 0 && p.place == 0 && p.length == 4 && holds(number_type, 4), "hdf4_pack_number_type");
+    p = hdf4_pack_number_type(1, 24, 32, 4, out, 3);
+    need(p.number == HDF4_SMALL && p.place == 0 && p.length == 0, "hdf4_pack_number_type, refused");
+
+    hdf4_dimension_answer d = hdf4_read_dimension(file, 398, 300, 2);
+    need(d.number == 0 && d.place == 0 && d.x == 12 && d.y == 10 && d.type_tag == 106 && d.type_ref == 7, "hdf4_read_dimension");
+    need(d.elements == 3 && d.interlace == 1 && d.compression_tag == 11 && d.compression_ref == 5, "the dimension");
+    d = hdf4_read_dimension(file, 398, 100, 1);
+    need(d.number == HDF4_RECORD && d.place == 112 && d.x == 0, "hdf4_read_dimension, refused");
+    fill();
+    p = hdf4_pack_dimension(12, 10, 106, 7, 3, 1, 11, 5, out, 21);
+    need(p.length == 20 && holds(dimension, 20), "hdf4_pack_dimension");
+
+    uint32_t sizes[3] = {0, 0, 77};
+    uint16_t pairs[7] = {0, 0, 0, 0, 0, 0, 77};
+    static const uint16_t known[7] = {106, 7, 108, 9, 109, 13, 77};
+    hdf4_array_answer a = hdf4_read_array(file, 398, 8, sizes, 3, pairs, 7);
+    need(a.number == 0 && a.place == 0 && a.rank == 2, "hdf4_read_array");
+    need(sizes[0] == 40 && sizes[1] == 50 && sizes[2] == 77 && memcmp(pairs, known, sizeof known) == 0, "the array");
+    need(hdf4_read_array(file, 398, 8, sizes, 1, pairs, 7).number == HDF4_SMALL, "hdf4_read_array without room for sizes");
+    need(hdf4_read_array(file, 398, 8, sizes, 3, pairs, 5).number == HDF4_SMALL, "hdf4_read_array without room for pairs");
+    a = hdf4_read_array(file, 397, 8, sizes, 3, pairs, 7);
+    need(a.number == HDF4_OUTSIDE && a.place == 124 && a.rank == 0, "hdf4_read_array, refused");
+    fill();
+    p = hdf4_pack_array(sizes, 2, pairs, 6, out, 23);
+    need(p.length == 22 && holds(array, 22), "hdf4_pack_array");
+}
+
+static void groups(void)
+{
+    static const uint16_t known[5] = {1965, 5, 300, 2, 77}, below[7] = {1965, 5, 1962, 4, 300, 2, 77};
+    uint16_t members[5] = {0, 0, 0, 0, 77}, list[7] = {0, 0, 0, 0, 0, 0, 77};
+
+    hdf4_group_answer g = hdf4_read_group(file, 398, 3, members, 5);
+    need(g.number == 0 && g.place == 0 && g.members == 2 && memcmp(members, known, sizeof known) == 0, "hdf4_read_group");
+    need(g.name_offset == 206 && g.name_length == 5 && g.class_offset == 213 && g.class_length == 6, "the names of a group");
+    need(g.extension_tag == 21 && g.extension_ref == 22 && g.version == 3 && g.more == 23, "the end of a group");
+    g = hdf4_read_group(file, 397, 3, members, 5);
+    need(g.number == HDF4_OUTSIDE && g.place == 124 && g.members == 0, "hdf4_read_group, refused");
+    need(hdf4_read_group(file, 398, 3, members, 3).number == HDF4_SMALL, "hdf4_read_group without room");
+    fill();
+    hdf4_pack_answer p = hdf4_pack_group(members, 4, (const uint8_t *)"north", 5, (const uint8_t *)"roads!", 6, 21, 22, 3, 23, out, 34);
+    need(p.length == 33 && holds(group, 33), "hdf4_pack_group");
+
+    hdf4_group_list_answer l = hdf4_list_group(file, 398, 3, list, 7);
+    need(l.number == 0 && l.place == 0 && l.pairs == 3 && memcmp(list, below, sizeof below) == 0, "hdf4_list_group");
+    l = hdf4_list_group(file, 397, 3, list, 7);
+    need(l.number == HDF4_OUTSIDE && l.place == 124 && l.pairs == 0, "hdf4_list_group, refused");
+    need(hdf4_list_group(file, 398, 3, list, 5).number == HDF4_SMALL, "hdf4_list_group without room");
+}
+
+/* The numbers of the head, whichever call read it. */
+static void check_head(hdf4_vdata_answer v, const char *call)
+{
+    need(v.number == 0 && v.place == 0, call);
+    need(v.interlace == 1 && v.records == 4 && v.record_size == 14 && v.fields == 2, "the start of a head");
+    need(v.name_offset == 288 && v.name_length == 8 && v.class_offset == 298 && v.class_length == 5, "the names of a head");
+    need(v.extension_tag == 31 && v.extension_ref == 32 && v.version == 3 && v.more == 33, "the end of a head");
+}
+
+static void vdatas(void)
+{
+    static const uint16_t known[9] = {22, 6, 0, 3, 5, 8, 6, 2, 77}, lengths[2] = {7, 4};
+    uint16_t fields[9] = {0, 0, 0, 0, 0, 0, 0, 0, 77};
+    uint32_t names[5] = {0, 0, 0, 0, 77};
+    static const uint32_t places[5] = {273, 7, 282, 4, 77};
+    check_head(hdf4_read_vdata(file, 398, 4, fields, 9, names, 5), "hdf4_read_vdata");
+    need(memcmp(fields, known, sizeof known) == 0 && memcmp(names, places, sizeof places) == 0, "the lists of hdf4_read_vdata");
+    need(hdf4_read_vdata(file, 398, 4, fields, 7, names, 5).number == HDF4_SMALL, "hdf4_read_vdata without room for fields");
+    need(hdf4_read_vdata(file, 398, 4, fields, 9, names, 3).number == HDF4_SMALL, "hdf4_read_vdata without room for names");
+
+    hdf4_field table[2];
+    check_head(hdf4_read_fields(file, 398, 4, table, 2), "hdf4_read_fields");
+    need(table[0].type == 22 && table[0].size == 6 && table[0].offset == 0 && table[0].order == 3, "the first field");
+    need(table[0].name_offset == 273 && table[0].name_length == 7, "the first field's name");
+    need(table[1].type == 5 && table[1].size == 8 && table[1].offset == 6 && table[1].order == 2, "the second field");
+    need(table[1].name_offset == 282 && table[1].name_length == 4, "the second field's name");
+    hdf4_vdata_answer v = hdf4_read_fields(file, 397, 4, table, 2);
+    need(v.number == HDF4_OUTSIDE && v.place == 124 && v.interlace == 0, "hdf4_read_fields, refused");
+    need(hdf4_read_fields(file, 398, 4, table, 1).number == HDF4_SMALL, "hdf4_read_fields without room");
+
+    fill();
+    hdf4_pack_answer p = hdf4_pack_vdata(1, 4, 14, fields, 8, lengths, 2, (const uint8_t *)"heightswind", 11,
+                                         (const uint8_t *)"stations", 8, (const uint8_t *)"track", 5, 31, 32, 3, 33, out, 67);
+    need(p.length == 66 && holds(head, 66), "hdf4_pack_vdata");
+
+    hdf4_value_answer x = hdf4_read_value(file, 398, 4, 3, 1, 0);
+    need(x.number == 0 && x.place == 0 && x.kind == HDF4_FLOAT32 && x.bits == 0x3fc00000, "hdf4_read_value, 1.5");
+    x = hdf4_read_value(file, 398, 4, 2, 0, 1);
+    need(x.kind == HDF4_SIGNED && x.bits == UINT64_MAX - 1, "hdf4_read_value, -2");
+    x = hdf4_read_value(file, 397, 4, 3, 1, 0);
+    need(x.number == HDF4_OUTSIDE && x.place == 124 && x.kind == 0 && x.bits == 0, "hdf4_read_value, refused");
+    need(hdf4_read_value(file, 398, 4, 1, 3, 0).number == HDF4_NO_VALUE, "hdf4_read_value of no field");
+}
+
+static void names(void)
+{
+#define REFUSAL(name, value) need(strcmp(hdf4_refusal_name(value), #name) == 0, "hdf4_refusal_name of " #name);
+#include "expected.h"
+    need(strcmp(hdf4_refusal_name(0), "GRANTED") == 0, "hdf4_refusal_name of 0");
+    need(strcmp(hdf4_refusal_name(1000), "UNKNOWN") == 0, "hdf4_refusal_name of 1000");
+    need(strcmp(hdf4_refusal_name(UINT64_MAX), "UNKNOWN") == 0, "hdf4_refusal_name of the greatest number");
+    need(strcmp(hdf4_refusal_text(HDF4_TOO_LONG), "the file is too long") == 0, "hdf4_refusal_text of TOO_LONG");
+    need(strcmp(hdf4_refusal_text(HDF4_DEEP), "groups are nested more than 16 deep") == 0, "hdf4_refusal_text of DEEP");
+    for (uint64_t number = 0; number < 100; number++)
+        need(hdf4_refusal_text(number)[0] != 0, "hdf4_refusal_text of every number");
+    need(strcmp(HDF4_VERSION, "0.1.0") == 0, "HDF4_VERSION");
+}
+
+int main(void)
+{
+    make_file(file);
+    make_small(small);
+    open_and_find();
+    view_and_copy();
+    edit_and_undo();
+    edit_room();
+    records();
+    groups();
+    vdatas();
+    names();
+    printf("all calls answer what is written down\n");
+    return 0;
+}
