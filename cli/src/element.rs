@@ -1,41 +1,83 @@
 //! The command that reads an element: its bytes, plain or of linked blocks.
 
-use crate::edit::Pair;
-use crate::store;
+use crate::fault::Fault;
+use crate::input::{self, Input};
+use crate::output::Lines;
+use crate::print::Print;
+use crate::text::shown;
+use crate::words::{pair, unsigned, Words};
+use crate::{miscounted, output};
 use hdf4::{Error, Rule};
-use std::path::Path;
+use std::borrow::Cow;
 
-/// The greatest length of an element.
-const MOST: usize = u32::MAX as usize;
+/// The most bytes of an element that room is made for, if its file is not longer and the user names no other number.
+const MOST_ROOM: usize = 64 << 20;
 
-/// The bytes of an element of a file.
-pub fn read(path: &Path, (tag, reference): Pair) -> Result<Vec<u8>, String> {
-    let image = crate::read(path)?;
-    let bytes = match hdf4::view(&image, tag, reference) {
-        Err(Error { rule: Rule::Storage, .. }) => copy(&image, tag, reference),
-        part => part.map(<[u8]>::to_vec),
+const BYTES_OF_A_LINE: usize = 16;
+
+pub fn read(words: &Words, print: &mut Print) -> Result<(), Fault> {
+    let (path, tag, reference, out) = match words.all()[..] {
+        [path, tag, reference] => (path, tag, reference, None),
+        [path, tag, reference, out] => (path, tag, reference, Some(out)),
+        _ => return Err(miscounted("read")),
     };
-    bytes.map_err(|e| format!("{}: {e}", path.display()))
+    let pair = pair(tag, reference)?;
+    let most = most_bytes(words)?;
+    let file = input::read(path)?;
+    let bytes = element(&file, pair, most)?;
+    if words.has("--hex") {
+        return output::put_lines(out, &file, print, |lines| hex(&bytes, lines));
+    }
+    output::put(out, &file, &bytes, print)
 }
 
-/// Writes the bytes of an element of a file to another file. Says how many there are.
-pub fn read_to(path: &Path, pair: Pair, out: &Path) -> Result<String, String> {
-    let bytes = read(path, pair)?;
-    store::put(out, &bytes).map_err(|e| format!("{}: {e}", out.display()))?;
-    Ok(format!("{}: {} bytes\n", out.display(), bytes.len()))
+/// The most bytes to make room for, where the user names them.
+pub fn most_bytes(words: &Words) -> Result<Option<usize>, Fault> {
+    let Some(word) = words.value("--most") else { return Ok(None) };
+    let most = unsigned(word).filter(|most| *most <= u32::MAX.into());
+    most.map(|most| Some(most as usize)).ok_or(Fault::Use(format!("--most {}: not a number from 0 to {}", shown(word), u32::MAX)))
 }
 
-/// The bytes of a linked element. It may be longer than the file, where blocks are named twice: the room grows until it fits.
-fn copy(image: &[u8], tag: u16, reference: u16) -> Result<Vec<u8>, Error> {
-    let mut room = image.len();
+/// The bytes of an element of a file, at most so many.
+pub fn element(file: &Input, (tag, reference): (u16, u16), most: Option<usize>) -> Result<Cow<'_, [u8]>, Fault> {
+    match hdf4::view(&file.bytes, tag, reference) {
+        Err(Error { rule: Rule::Storage, .. }) => linked(file, (tag, reference), most).map(Cow::Owned),
+        part => part.map(Cow::Borrowed).map_err(|e| file.refused(e)),
+    }
+}
+
+/// The bytes of a linked element. It may be longer than the file, where blocks are named twice: the room grows until it fits, but
+/// not without end for a small file.
+fn linked(file: &Input, (tag, reference): (u16, u16), most: Option<usize>) -> Result<Vec<u8>, Fault> {
+    let most = most.unwrap_or(MOST_ROOM.max(file.bytes.len()));
+    let mut room = most.min(file.bytes.len());
     loop {
-        let mut bytes = vec![0; room];
-        match hdf4::copy(image, tag, reference, &mut bytes) {
-            Err(Error { rule: Rule::Small, .. }) if room < MOST => room = MOST.min(2 * room),
+        let mut bytes = Vec::new();
+        input::reserve(&file.name, &mut bytes, room)?;
+        bytes.resize(room, 0);
+        match hdf4::copy(&file.bytes, tag, reference, &mut bytes) {
+            Err(Error { rule: Rule::Small, .. }) if room < most => room = most.min(2 * room),
+            Err(e @ Error { rule: Rule::Small, .. }) => {
+                return Err(file.refused(format_args!("{e}; the element has more than {most} bytes, see --most")))
+            }
             copied => {
-                bytes.truncate(copied?);
+                bytes.truncate(copied.map_err(|e| file.refused(e))?);
                 return Ok(bytes);
             }
         }
     }
+}
+
+/// Lines of 16 bytes: where they start, the bytes in hexadecimal digits, and those that are printable.
+fn hex(bytes: &[u8], lines: &mut Lines) -> Result<(), Fault> {
+    let mut progress = lines.progress("bytes", bytes.len());
+    for (index, line) in bytes.chunks(BYTES_OF_A_LINE).enumerate() {
+        let start = index * BYTES_OF_A_LINE;
+        progress.at(start);
+        let digits: Vec<String> = line.iter().map(|byte| format!("{byte:02x}")).collect();
+        let printable = |byte: &u8| if (b' '..=b'~').contains(byte) { char::from(*byte) } else { '.' };
+        let letters: String = line.iter().map(printable).collect();
+        lines.text(format_args!("{start:08x}  {:<47}  |{letters}|\n", digits.join(" ")))?;
+    }
+    Ok(())
 }

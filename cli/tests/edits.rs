@@ -2,10 +2,10 @@
 
 mod common;
 
-use common::{granted, program, refused, text, Folder, FILES};
+use common::{granted, misused, program, refused, text, Folder, FILES};
 use std::fs;
 use std::io::Write;
-use std::os::unix::fs::{symlink, MetadataExt, PermissionsExt};
+use std::os::unix::fs::MetadataExt;
 use std::path::Path;
 use std::process::Stdio;
 use std::thread;
@@ -117,41 +117,16 @@ fn refusals_name_their_rule_and_leave_the_file() {
 }
 
 #[test]
-fn words_that_say_nothing_are_refused() {
-    let folder = Folder::new("words");
+fn reference_0_has_to_be_allowed() {
+    let folder = Folder::new("zero");
     let file = folder.copy_of("empty.hdf");
     let before = fs::read(&file).unwrap();
-    for number in ["", "-1", "+1", "65536", "0x10000", "0x", "0x+1", "five", "1.0"] {
-        let message = refused(&["remove", text(&file), number, "5"]);
-        assert!(message.contains("not a number from 0 to 65535"), "{number}: {message}");
-    }
-    assert!(refused(&[]).contains("usage: hdf4 list FILE\n"));
-    assert!(refused(&["cut", "x"]).starts_with("hdf4: cut: no such command\nusage: hdf4 list FILE\n"));
-    assert!(refused(&["add", "x", "1", "2"]).ends_with("usage: hdf4 add FILE TAG REF DATAFILE\n"));
-    assert!(refused(&["undo"]).ends_with("usage: hdf4 undo FILE\n"));
-    assert!(refused(&["list", "x", "y"]).ends_with("usage: hdf4 list FILE\n"));
-    let absent = folder.path("absent");
-    assert!(refused(&["undo", text(&absent)]).contains(text(&absent)));
-    assert!(refused(&["add", text(&file), "40000", "5", text(&absent)]).contains(text(&absent)));
+    let message = misused(&["add", text(&file), "40000", "0", "/dev/null"]);
+    assert!(message.contains("--allow-zero"), "{message}");
     assert_eq!(fs::read(&file).unwrap(), before);
-    assert!(granted(&["--help"]).starts_with("usage:"));
-    assert_eq!(granted(&["add", "--help"]), granted(&["--help"]));
-}
-
-#[test]
-fn permissions_and_links_are_kept_and_nothing_is_left_behind() {
-    let folder = Folder::new("kept");
-    let file = folder.copy_of("empty.hdf");
-    let link = folder.path("link.hdf");
-    symlink("empty.hdf", &link).unwrap();
-    for mode in [0o600, 0o640, 0o664] {
-        fs::set_permissions(&file, fs::Permissions::from_mode(mode)).unwrap();
-        granted(&["add", text(&link), "40000", &mode.to_string(), "/dev/null"]);
-        assert_eq!(fs::metadata(&file).unwrap().permissions().mode() & 0o777, mode);
-    }
-    assert!(fs::symlink_metadata(&link).unwrap().is_symlink());
-    assert!(granted(&["list", text(&file)]).contains("tag 40000"));
-    assert_eq!(folder.names(), ["empty.hdf", "link.hdf"]);
+    granted(&["add", "--allow-zero", text(&file), "40000", "0", "/dev/null"]);
+    assert!(granted(&["list", text(&file)]).contains("tag 40000 ref 0 "));
+    granted(&["remove", text(&file), "40000", "0"]);
 }
 
 #[test]
@@ -171,8 +146,9 @@ fn a_killed_program_leaves_the_old_file_or_the_new_one() {
         let left = fs::read(&file).unwrap();
         assert!(left == old || left == new, "after {delay}");
     }
-    // What a killed program leaves beside the file does no harm.
+    // What killed programs left beside the file goes with the next edit.
     fs::write(&file, &old).unwrap();
     granted(&add);
     assert_eq!(fs::read(&file).unwrap(), new);
+    assert_eq!(folder.names(), ["data", "empty.hdf"]);
 }

@@ -2,15 +2,19 @@
 
 mod common;
 
-use common::{file, granted, granted_bytes, refused, text, Folder};
+use common::{failed, file, granted, granted_bytes, misused, refused, text, Folder};
 use std::fs;
 
 /// Tag, reference, offset and length of each plain element, as the program lists them.
 fn plain_elements(path: &str) -> Vec<[usize; 4]> {
     let list = granted(&["list", path]);
-    let numbers = |line: &str| line.split(' ').skip(1).step_by(2).map(|word| word.parse().unwrap()).collect::<Vec<_>>();
+    let after = |line: &str, name: &str| {
+        let mut words = line.split(' ').skip_while(|word| *word != name);
+        words.nth(1).unwrap().parse().unwrap()
+    };
+    let numbers = |line: &str| ["tag", "ref", "offset", "length"].map(|name| after(line, name));
     let plain = list.lines().skip(1).filter(|line| !line.ends_with("extended"));
-    plain.map(|line| numbers(line).try_into().unwrap()).collect()
+    plain.map(numbers).collect()
 }
 
 #[test]
@@ -75,8 +79,23 @@ fn an_element_goes_to_a_file_new_or_old() {
     refused(&["read", &path, "20", "9", &out]);
     assert_eq!(fs::read(&out).unwrap(), b"something else");
     let absent = folder.word("absent/out");
-    assert!(refused(&["read", &path, "20", "1", &absent]).contains(&absent));
+    assert!(failed(&["read", &path, "20", "1", &absent]).contains(&absent));
     assert_eq!(folder.names(), ["linked.hdf", "out"]);
+}
+
+#[test]
+fn bytes_are_shown_in_hexadecimal_digits() {
+    let folder = Folder::new("hex");
+    let path = linked_in(&folder);
+    assert_eq!(granted(&["read", "--hex", &path, "20", "1"]), format!("00000000  {:<47}  |......|\n", "00 00 00 02 00 02"));
+    let shown = granted(&["read", &path, "100", "1", "--hex"]);
+    let third = "00000020  20 21 22 23 24 25 26 27 28 29 2a 2b 2c 2d 2e 2f  | !\"#$%&'()*+,-./|";
+    assert_eq!(shown.lines().nth(2), Some(third));
+    assert_eq!(shown.lines().count(), 25);
+    let out = folder.word("out");
+    granted(&["read", "--hex", &path, "100", "1", &out]);
+    assert_eq!(fs::read_to_string(&out).unwrap(), shown);
+    assert_eq!(granted(&["read", "--hex", &path, "100", "1", "-"]), shown);
 }
 
 #[test]
@@ -84,7 +103,7 @@ fn refusals_name_their_rule() {
     let folder = Folder::new("refused");
     let path = linked_in(&folder);
     assert!(refused(&["read", &path, "20", "9"]).contains("ABSENT"));
-    assert!(refused(&["read", &path, "20", "x"]).contains("not a number from 0 to 65535"));
-    assert!(refused(&["read", &path, "20"]).contains("usage:"));
+    assert!(misused(&["read", &path, "20", "x"]).contains("not a number from 0 to 65535"));
+    assert!(misused(&["read", &path, "20"]).contains("usage:"));
     assert!(refused(&["read", &file("set_aside.hdf"), "20", "1"]).contains("OUTSIDE"));
 }

@@ -3,9 +3,16 @@
 // No test file uses all of it.
 #![allow(dead_code)]
 
+pub mod files;
+pub mod json;
+pub mod terminal;
+
 use std::fs;
+use std::io::ErrorKind;
 use std::path::{Path, PathBuf};
 use std::process::{self, Command, Output};
+use std::thread;
+use std::time::Duration;
 
 pub const FILES: &str = concat!(env!("CARGO_MANIFEST_DIR"), "/../harness/files");
 
@@ -81,16 +88,44 @@ pub fn granted(words: &[&str]) -> String {
     String::from_utf8(granted_bytes(words)).unwrap()
 }
 
-/// A command that must end with 1; answers the text that it printed and its messages.
-pub fn partly_granted(words: &[&str]) -> (String, String) {
-    let Output { status, stdout, stderr } = program().args(words).output().unwrap();
-    assert_eq!(status.code(), Some(1), "{words:?}");
-    (String::from_utf8(stdout).unwrap(), String::from_utf8(stderr).unwrap())
+/// A command that must end with a certain status; answers the text that it printed and its messages.
+pub fn ended(status: i32, words: &[&str]) -> (String, String) {
+    ended_as(status, program().args(words))
 }
 
-/// A command that must end with 1 and print nothing; answers its message.
-pub fn refused(words: &[&str]) -> String {
-    let (printed, message) = partly_granted(words);
+pub fn ended_as(status: i32, command: &mut Command) -> (String, String) {
+    let output = loop {
+        match command.output() {
+            // A copy of the program is busy as long as a child of another test has it open for writing.
+            Err(e) if e.kind() == ErrorKind::ExecutableFileBusy => thread::sleep(Duration::from_millis(5)),
+            output => break output.unwrap(),
+        }
+    };
+    let Output { status: code, stdout, stderr } = output;
+    let message = String::from_utf8(stderr).unwrap();
+    assert_eq!(code.code(), Some(status), "{command:?}: {message}");
+    (String::from_utf8(stdout).unwrap(), message)
+}
+
+/// A command that must end with a certain status, print nothing and say why in one line, which it answers.
+fn ended_with_a_line(status: i32, words: &[&str]) -> String {
+    let (printed, message) = ended(status, words);
     assert!(printed.is_empty(), "{words:?}");
+    assert!(message.starts_with("hdf4: ") && message.ends_with('\n') && message.lines().count() == 1, "{words:?}: {message}");
     message
+}
+
+/// A refusal; answers its line.
+pub fn refused(words: &[&str]) -> String {
+    ended_with_a_line(1, words)
+}
+
+/// Wrong use; answers the line that says so.
+pub fn misused(words: &[&str]) -> String {
+    ended_with_a_line(2, words)
+}
+
+/// What files or the system do not allow; answers the line that says so.
+pub fn failed(words: &[&str]) -> String {
+    ended_with_a_line(3, words)
 }

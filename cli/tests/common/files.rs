@@ -1,0 +1,38 @@
+//! Small files made by hand, and what the real files hold.
+
+/// A file of one block with these elements: tag, reference and bytes.
+pub fn file_of(elements: &[(u16, u16, &[u8])]) -> Vec<u8> {
+    let mut image = b"\x0e\x03\x13\x01".to_vec();
+    image.extend((elements.len() as u16).to_be_bytes());
+    image.extend([0; 4]);
+    let mut offset = 10 + 12 * elements.len();
+    for (tag, reference, data) in elements {
+        image.extend(tag.to_be_bytes());
+        image.extend(reference.to_be_bytes());
+        image.extend((offset as u32).to_be_bytes());
+        image.extend((data.len() as u32).to_be_bytes());
+        offset += data.len();
+    }
+    elements.iter().for_each(|(_, _, data)| image.extend(*data));
+    image
+}
+
+/// Where the slot of an element is in such a file.
+pub fn slot(index: usize) -> usize {
+    10 + 12 * index
+}
+
+/// Numbers of 16 bits, high byte first.
+pub fn shorts(numbers: &[u16]) -> Vec<u8> {
+    numbers.iter().flat_map(|number| number.to_be_bytes()).collect()
+}
+
+/// A byte of the samples that the real files hold.
+pub fn sample_byte(index: usize) -> u8 {
+    (7 * index + index / 32) as u8
+}
+
+/// A number of the samples, as the program that wrote them had it in memory: low byte first.
+pub fn sample(place: usize, size: usize) -> u64 {
+    (0..size).map(|index| u64::from(sample_byte(place + index)) << (8 * index)).sum()
+}
