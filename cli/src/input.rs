@@ -7,6 +7,7 @@ use crate::text::shown;
 use hdf4::{Error, Rule, MOST_BYTES};
 use std::ffi::OsStr;
 use std::fs::{File, Metadata};
+use std::hint::black_box;
 use std::io::{self, Read};
 use std::os::fd::AsFd;
 use std::os::unix::fs::MetadataExt;
@@ -41,19 +42,31 @@ pub fn identity(about: &Metadata) -> (u64, u64) {
 pub fn read(word: &OsStr) -> Result<Input, Fault> {
     if word == "-" {
         let name = "standard input".to_string();
+        let identity = file_of(io::stdin());
+        apart(&name, identity)?;
         let bytes = all(&name, io::stdin().lock(), None, 0)?;
-        return Ok(Input { name, bytes, identity: standard_input() });
+        return Ok(Input { name, bytes, identity });
     }
     let name = shown(word);
     let file = File::open(word).map_err(|e| Fault::system(&name, e))?;
     let about = file.metadata().map_err(|e| Fault::system(&name, e))?;
+    let identity = Some(identity(&about));
+    apart(&name, identity)?;
     let bytes = of_file(&name, &file, &about, 0)?;
-    Ok(Input { name, bytes, identity: Some(identity(&about)) })
+    Ok(Input { name, bytes, identity })
 }
 
-/// Which file standard input is, if it is one.
-fn standard_input() -> Option<(u64, u64)> {
-    let open = io::stdin().as_fd().try_clone_to_owned().ok()?;
+/// Sees to it that what is printed does not go to the file that is read.
+fn apart(name: &str, read: Option<(u64, u64)>) -> Result<(), Fault> {
+    if read.is_some() && read == file_of(io::stdout()) {
+        return Err(Fault::Use(format!("{name}: this is the file that is read, and standard output would go to it")));
+    }
+    Ok(())
+}
+
+/// Which file an open stream is, if it is one.
+fn file_of(stream: impl AsFd) -> Option<(u64, u64)> {
+    let open = stream.as_fd().try_clone_to_owned().ok()?;
     File::from(open).metadata().ok().filter(Metadata::is_file).map(|about| identity(&about))
 }
 
@@ -88,7 +101,11 @@ fn all(name: &str, mut source: impl Read, length: Option<u64>, room: usize) -> R
 
 /// Sees to it that there is memory for what is small.
 pub fn spare(name: &str) -> Result<(), Fault> {
-    Vec::<u8>::new().try_reserve_exact(SPARE).map_err(|_| no_memory(name))
+    let mut spare = Vec::<u8>::new();
+    spare.try_reserve_exact(SPARE).map_err(|_| no_memory(name))?;
+    // Else a compiler may see that it is not used, and not ask for it.
+    black_box(spare);
+    Ok(())
 }
 
 pub fn no_memory(name: &str) -> Fault {

@@ -23,7 +23,7 @@ const PIECE: usize = 128;
 /// Lines on their way: printed as they come, or kept in memory for a file, with the name that messages have.
 pub enum Lines<'a> {
     Printed(&'a mut Print),
-    Kept(&'a str, Vec<u8>),
+    Kept(&'a str, &'a mut Vec<u8>),
 }
 
 impl Lines<'_> {
@@ -57,12 +57,9 @@ where
     if out.is_none_or(is_printed) {
         return write(&mut Lines::Printed(print));
     }
-    let mut lines = Lines::Kept(&source.name, Vec::new());
-    write(&mut lines)?;
-    match lines {
-        Lines::Kept(_, bytes) => put(out, source, &bytes, print),
-        Lines::Printed(_) => Ok(()),
-    }
+    let mut bytes = Vec::new();
+    write(&mut Lines::Kept(&source.name, &mut bytes))?;
+    put(out, source, &bytes, print)
 }
 
 fn is_printed(out: &OsStr) -> bool {
@@ -91,10 +88,8 @@ pub fn put(out: Option<&OsStr>, source: &Input, bytes: &[u8], print: &mut Print)
 /// Writes a file, new or old, or what is no file, as a pipe and a device. Gives warnings.
 fn put_to(path: &Path, source: &Input, bytes: &[u8]) -> Result<Vec<String>, Fault> {
     let told = |e: io::Error| Fault::system(shown(path), e);
-    if let Some(mut open) = opened_before(path) {
-        return open.write_all(bytes).map(|()| Vec::new()).map_err(told);
-    }
-    match fs::metadata(path) {
+    let open = opened_before(path);
+    match open.as_ref().map_or_else(|| fs::metadata(path), File::metadata) {
         Err(e) if e.kind() == ErrorKind::NotFound && fs::symlink_metadata(path).is_err() => {
             store::create(path, bytes).map_err(told)
         }
@@ -102,10 +97,10 @@ fn put_to(path: &Path, source: &Input, bytes: &[u8]) -> Result<Vec<String>, Faul
         Ok(about) if source.identity == Some(identity(&about)) => {
             Err(Fault::Use(format!("{}: this is the file that is read, and it is left alone", shown(path))))
         }
-        Ok(about) if about.is_file() => Ok(store::rewrite(path, |_| Ok(Cow::Borrowed(bytes)))?.warnings),
+        Ok(about) if about.is_file() && open.is_none() => Ok(store::rewrite(path, |_| Ok(Cow::Borrowed(bytes)))?.warnings),
         Ok(_) => {
-            let mut file = OpenOptions::new().write(true).open(path).map_err(told)?;
-            file.write_all(bytes).map_err(told)?;
+            let file = open.map_or_else(|| OpenOptions::new().write(true).open(path), Ok);
+            file.and_then(|mut file| file.write_all(bytes)).map_err(told)?;
             Ok(Vec::new())
         }
     }

@@ -25,6 +25,9 @@ const PART: usize = 1 << 24;
 /// How often a file is edited anew that another program keeps changing.
 const MOST_TRIES: usize = 20;
 
+/// How often an edit that had to wait finds another file in the place of the one that it waited for.
+const MOST_TURNS: usize = 10_000;
+
 /// What became of a file that was written: it has changed, whatever the warnings say.
 pub struct Written {
     pub length: usize,
@@ -86,7 +89,7 @@ fn unsynced(folder: &Path) -> Vec<String> {
 
 /// Opens a file to be edited and waits until no other edit has it.
 fn lock(path: &Path) -> io::Result<Locked> {
-    loop {
+    for _ in 0..MOST_TURNS {
         if !fs::metadata(path)?.is_file() {
             return Err(io::Error::new(ErrorKind::InvalidInput, "not a regular file"));
         }
@@ -98,6 +101,7 @@ fn lock(path: &Path) -> io::Result<Locked> {
             return Ok(Locked { file, about, path: path.to_path_buf() });
         }
     }
+    Err(io::Error::other("another program keeps putting another file in its place"))
 }
 
 fn wait(file: &File, path: &Path) -> io::Result<()> {

@@ -20,15 +20,15 @@ const DO_NOT_FOLLOW: i32 = 0o400000;
 
 /// The files that may have a temporary name: the new one, and the old one as it was when it was read.
 #[derive(Clone, Copy, PartialEq, Debug)]
-struct Pair {
+struct Files {
     new: u64,
     old: u64,
     old_time: u64,
 }
 
-impl Pair {
-    fn of(new: &Metadata, old: Option<&Metadata>) -> Pair {
-        Pair { new: new.ino(), old: old.map_or(0, Metadata::ino), old_time: old.map_or(0, time) }
+impl Files {
+    fn of(new: &Metadata, old: Option<&Metadata>) -> Files {
+        Files { new: new.ino(), old: old.map_or(0, Metadata::ino), old_time: old.map_or(0, time) }
     }
 
     fn name(&self) -> String {
@@ -50,7 +50,7 @@ fn time(about: &Metadata) -> u64 {
 pub struct Temporary {
     pub file: File,
     pub path: PathBuf,
-    pair: Pair,
+    files: Files,
 }
 
 impl Temporary {
@@ -73,14 +73,14 @@ impl Temporary {
                     return Err(told(e));
                 }
             }
-            let pair = Pair::of(&file.metadata()?, old);
-            let path = folder_of(path).join(pair.name());
+            let files = Files::of(&file.metadata()?, old);
+            let path = folder_of(path).join(files.name());
             if fs::symlink_metadata(&path).is_ok() {
                 let _ = fs::remove_file(&first);
                 continue;
             }
             fs::rename(&first, &path).map_err(told)?;
-            return Ok(Temporary { file, path, pair });
+            return Ok(Temporary { file, path, files });
         }
         unreachable!("some name is free")
     }
@@ -92,7 +92,7 @@ impl Temporary {
 
 impl Drop for Temporary {
     fn drop(&mut self) {
-        if fs::symlink_metadata(&self.path).is_ok_and(|about| self.pair.has(&about)) {
+        if fs::symlink_metadata(&self.path).is_ok_and(|about| self.files.has(&about)) {
             // If it stays, the next edit removes it.
             let _ = fs::remove_file(&self.path);
         }
@@ -130,8 +130,8 @@ fn left_over(name: &[u8]) -> Option<Box<dyn Fn(&Metadata) -> bool>> {
         return Some(Box::new(|about| about.is_file() && about.len() == 0));
     }
     let [new, old, old_time] = numbers_of(rest.strip_suffix(b".tmp")?)?;
-    let pair = Pair { new, old, old_time };
-    Some(Box::new(move |about| pair.has(about)))
+    let files = Files { new, old, old_time };
+    Some(Box::new(move |about| files.has(about)))
 }
 
 /// So many numbers, with a hyphen between two.
@@ -168,8 +168,8 @@ mod tests {
         ] {
             assert_eq!(left_over(name.as_bytes()).is_some(), is_one, "{name}");
         }
-        let pair = Pair { new: 12, old: 34, old_time: 56 };
+        let files = Files { new: 12, old: 34, old_time: 56 };
         assert_eq!(numbers_of(b"12-34-56"), Some([12, 34, 56]));
-        assert_eq!(pair.name(), ".hdf4-12-34-56.tmp");
+        assert_eq!(files.name(), ".hdf4-12-34-56.tmp");
     }
 }

@@ -180,6 +180,17 @@ fn groups_say_which_dimensions_belong_to_data() {
 }
 
 #[test]
+fn images_without_an_order_of_bytes_are_read_as_libhdf4_reads_them() {
+    let folder = Folder::new("order");
+    let number_type = b"\x01\x16\x10\x00";
+    let (dimensions, data) = (image(2, 1, 1, 0), b"\x01\x02\xff\xfe");
+    let path = folder.holding("image.hdf", &file_of(&[(302, 1, data), (300, 1, &dimensions), (106, 1, number_type)]));
+    assert_eq!(granted(&["grid", text(&path), "1"]), "258 -2\n");
+    let path = folder.holding("array.hdf", &array_file(number_type, &[2], data));
+    assert!(refused(&["grid", text(&path), "2"]).contains("TYPE: a number type is not known: code 22, 16 bits, class 0"));
+}
+
+#[test]
 fn a_reference_of_both_an_array_and_an_image_needs_an_option() {
     let folder = Folder::new("both");
     let (line, dimensions) = (array(&[2]), image(1, 1, 1, 0));

@@ -35,6 +35,26 @@ fn the_file_that_is_read_is_not_overwritten() {
 }
 
 #[test]
+fn no_open_file_that_is_read_is_written_to() {
+    let folder = Folder::new("open");
+    let path = folder.copy_of("cleared_mixed.hdf");
+    let before = fs::read(&path).unwrap();
+    for script in [
+        r#""$0" read "$1" 302 2 /dev/fd/3 3<>"$1""#,
+        r#""$0" read - 302 2 /dev/fd/3 3<>"$1" <"$1""#,
+        r#""$0" read "$1" 302 2 1<>"$1""#,
+        r#""$0" read "$1" 302 2 - >>"$1""#,
+        r#""$0" list "$1" >>"$1""#,
+        r#""$0" grid - 2 <"$1" >>"$1""#,
+    ] {
+        let words = ["-c", script, env!("CARGO_BIN_EXE_hdf4"), text(&path)];
+        let (_, message) = ended_as(2, Command::new("bash").args(words));
+        assert!(message.contains("this is the file that is read"), "{script}: {message}");
+        assert_eq!(fs::read(&path).unwrap(), before, "{script}");
+    }
+}
+
+#[test]
 fn what_the_program_was_started_with_is_written_where_it_stands() {
     let folder = Folder::new("descriptor");
     let (path, out) = (file("cleared_mixed.hdf"), folder.path("out"));
