@@ -1,8 +1,8 @@
 /* The C interface of the library. Link libhdf4.a or libhdf4.so.
  *
  * Every function returns a struct of numbers: number and place first (0 and 0 where the call is granted), then its values in order,
- * zeros where it is refused. A slice passes as a pointer and a length, in entries of its type. A null pointer is allowed exactly where
- * the length is 0. Nothing is written where a call is refused.
+ * zeros where it is refused, but for the index of hdf4_copy. A slice passes as a pointer and a length, in entries of its type. A null
+ * pointer is allowed exactly where the length is 0. Nothing is written where a call is refused.
  *
  * The numbers of refusals are named below. A place counts bytes from the start of the image.
  *
@@ -22,9 +22,9 @@ extern "C" {
 #endif
 
 /* The version of the library that this header is of. */
-#define HDF4_VERSION "0.1.0"
+#define HDF4_VERSION "0.2.0"
 #define HDF4_VERSION_MAJOR 0
-#define HDF4_VERSION_MINOR 1
+#define HDF4_VERSION_MINOR 2
 #define HDF4_VERSION_PATCH 0
 
 /* The most bytes that an image has. */
@@ -56,7 +56,7 @@ enum hdf4_refusal {
     HDF4_TWICE = 10,       /* two live slots have the same base tag and reference */
     HDF4_ABSENT = 11,      /* no live slot has that base tag and reference */
     HDF4_STORAGE = 12,     /* the element is extended, and not of a kind that the call reads */
-    HDF4_CHAIN = 13,       /* the linked blocks of the element are broken */
+    HDF4_CHAIN = 13,       /* the record of the element's linked blocks breaks its layout */
     HDF4_SMALL = 14,       /* the lent output is too short */
     HDF4_RECORD = 15,      /* a record breaks its layout */
     HDF4_TYPE = 16,        /* a number type is not known */
@@ -65,7 +65,12 @@ enum hdf4_refusal {
     HDF4_NO_ROOM = 19,     /* the buffer is shorter than the new image */
     HDF4_NO_EDIT = 20,     /* the image carries no trailer, so there is nothing to undo */
     HDF4_BAD_TRAILER = 21, /* the trailer breaks a rule; the place is the trailer's */
-    HDF4_DEEP = 22         /* groups are nested past 16; the place is the slot of the 16th */
+    HDF4_DEEP = 22,        /* groups are nested past 16; the place is the slot of the 16th */
+    HDF4_NO_TABLE = 23,    /* a table of the element's linked blocks is absent or extended, or its reference is 0; the index is the table's */
+    HDF4_SHORT_TABLE = 24, /* a table of the element's linked blocks has too few bytes for its entries; the index is the table's */
+    HDF4_NO_BLOCK = 25,    /* a linked block is absent or extended, or its reference is 0; the index is the block's, through the whole element */
+    HDF4_SHORT_BLOCK = 26, /* a linked block has fewer bytes than are taken from it; the index is the block's, through the whole element */
+    HDF4_TABLE_LOOP = 27   /* a table of the element's linked blocks is one already walked, or a 257th; the index is the table's */
 };
 
 /* The kinds of values. */
@@ -103,6 +108,11 @@ static inline const char *hdf4_refusal_name(uint64_t number)
     case HDF4_NO_EDIT: return "NO_EDIT";
     case HDF4_BAD_TRAILER: return "BAD_TRAILER";
     case HDF4_DEEP: return "DEEP";
+    case HDF4_NO_TABLE: return "NO_TABLE";
+    case HDF4_SHORT_TABLE: return "SHORT_TABLE";
+    case HDF4_NO_BLOCK: return "NO_BLOCK";
+    case HDF4_SHORT_BLOCK: return "SHORT_BLOCK";
+    case HDF4_TABLE_LOOP: return "TABLE_LOOP";
     default: return "UNKNOWN";
     }
 }
@@ -124,7 +134,7 @@ static inline const char *hdf4_refusal_text(uint64_t number)
     case HDF4_TWICE: return "two elements have the same tag and reference";
     case HDF4_ABSENT: return "there is no element with that tag and reference";
     case HDF4_STORAGE: return "the element is stored in a way that is not read here";
-    case HDF4_CHAIN: return "the linked blocks of the element are broken";
+    case HDF4_CHAIN: return "the record of the element's linked blocks breaks its layout";
     case HDF4_SMALL: return "the output is too short";
     case HDF4_RECORD: return "a record breaks its layout";
     case HDF4_TYPE: return "a number type is not known";
@@ -134,6 +144,11 @@ static inline const char *hdf4_refusal_text(uint64_t number)
     case HDF4_NO_EDIT: return "there is no edit to undo";
     case HDF4_BAD_TRAILER: return "the trailer of the last edit is damaged";
     case HDF4_DEEP: return "groups are nested more than 16 deep";
+    case HDF4_NO_TABLE: return "a table of the element's linked blocks is not there";
+    case HDF4_SHORT_TABLE: return "a table of the element's linked blocks is too short";
+    case HDF4_NO_BLOCK: return "a linked block of the element is not there";
+    case HDF4_SHORT_BLOCK: return "a linked block of the element is too short";
+    case HDF4_TABLE_LOOP: return "the tables of the element's linked blocks repeat or run past 256";
     default: return "a rule that this version does not know";
     }
 }
@@ -174,6 +189,7 @@ typedef struct {
     uint64_t number;
     uint64_t place;
     uint64_t length; /* bytes of the element */
+    uint64_t index;  /* which table or block of the element's linked blocks is broken, counted from 0, where the number is 23 to 27; else 0 */
 } hdf4_copy_answer;
 
 /* An element's own part of one of two images. */
@@ -301,8 +317,9 @@ hdf4_list_answer hdf4_list(const uint8_t *image, size_t n, uint32_t *table, size
 /* Finds an element's own part of the image. The element is plain: an extended one is refused at its slot. */
 hdf4_view_answer hdf4_view(const uint8_t *image, size_t n, uint16_t tag, uint16_t ref);
 
-/* Copies an element's bytes to the front of a lent output; the rest of it stays as it was. The element is plain or of linked blocks. The
- * output may not lie in the image. */
+/* Copies an element's bytes to the front of a lent output; the rest of it stays as it was. The element is plain or of linked blocks.
+ * Where a table or a block is broken the refusal says which: its place is the element's slot, and its index that of the first one that a
+ * walk meets. The output may not lie in the image. */
 hdf4_copy_answer hdf4_copy(const uint8_t *image, size_t n, uint16_t tag, uint16_t ref, uint8_t *out, size_t room);
 
 /* Finds an element's own part of the current image or, where that has no such element, of the fallback. Both must open, and the element

@@ -5,9 +5,9 @@ use crate::input::{self, Input};
 use crate::output::Lines;
 use crate::print::Print;
 use crate::text::shown;
-use crate::words::{pair, unsigned, Words};
-use crate::{miscounted, output};
-use hdf4::{Error, Rule};
+use crate::words::{pair, unsigned, Pair, Words};
+use crate::{links, miscounted, output};
+use hdf4::{CopyError, Error, Rule};
 use std::borrow::Cow;
 
 /// The most bytes of an element that room is made for, if its file is not longer and the user names no other number.
@@ -39,7 +39,7 @@ pub fn most_bytes(words: &Words) -> Result<Option<usize>, Fault> {
 }
 
 /// The bytes of an element of a file, at most so many.
-pub fn element(file: &Input, (tag, reference): (u16, u16), most: Option<usize>) -> Result<Cow<'_, [u8]>, Fault> {
+pub fn element(file: &Input, (tag, reference): Pair, most: Option<usize>) -> Result<Cow<'_, [u8]>, Fault> {
     match hdf4::view(&file.bytes, tag, reference) {
         Err(Error { rule: Rule::Storage, .. }) => linked(file, (tag, reference), most).map(Cow::Owned),
         part => part.map(Cow::Borrowed).map_err(|e| file.refused(e)),
@@ -48,7 +48,7 @@ pub fn element(file: &Input, (tag, reference): (u16, u16), most: Option<usize>) 
 
 /// The bytes of a linked element. It may be longer than the file, where blocks are named twice: the room grows until it fits, but
 /// not without end for a small file.
-fn linked(file: &Input, (tag, reference): (u16, u16), most: Option<usize>) -> Result<Vec<u8>, Fault> {
+fn linked(file: &Input, (tag, reference): Pair, most: Option<usize>) -> Result<Vec<u8>, Fault> {
     let most = most.unwrap_or(MOST_ROOM.max(file.bytes.len()));
     let mut room = most.min(file.bytes.len());
     loop {
@@ -56,12 +56,12 @@ fn linked(file: &Input, (tag, reference): (u16, u16), most: Option<usize>) -> Re
         input::reserve(&file.name, &mut bytes, room)?;
         bytes.resize(room, 0);
         match hdf4::copy(&file.bytes, tag, reference, &mut bytes) {
-            Err(Error { rule: Rule::Small, .. }) if room < most => room = most.min(2 * room),
-            Err(e @ Error { rule: Rule::Small, .. }) => {
+            Err(CopyError { rule: Rule::Small, .. }) if room < most => room = most.min(2 * room),
+            Err(e @ CopyError { rule: Rule::Small, .. }) => {
                 return Err(file.refused(format_args!("{e}; the element has more than {most} bytes, see --most")))
             }
             copied => {
-                bytes.truncate(copied.map_err(|e| file.refused(e))?);
+                bytes.truncate(copied.map_err(|e| file.refused(links::told(file, (tag, reference), e)))?);
                 return Ok(bytes);
             }
         }

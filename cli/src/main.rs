@@ -9,6 +9,7 @@ mod grid;
 mod groups;
 mod input;
 mod json;
+mod links;
 mod list;
 mod numbers;
 mod output;

@@ -2,7 +2,7 @@
 
 mod common;
 
-use common::files::{file_of, sample, sample_byte, shorts, slot};
+use common::files::{file_of, linked_record, sample, sample_byte, shorts, slot};
 use common::terminal::on_a_terminal;
 use common::{file, granted, granted_bytes, misused, program, refused, text, Folder};
 use std::fs::{self, File};
@@ -212,8 +212,7 @@ fn a_reference_of_both_an_array_and_an_image_needs_an_option() {
 #[test]
 fn linked_data_are_read() {
     let folder = Folder::new("linked");
-    let record = [1u32, 4, 2, 2, 2].map(u32::to_be_bytes).concat();
-    let record = [record, shorts(&[1])].concat();
+    let record = linked_record([4, 2, 2, 2], 1);
     let (table, dimensions) = (shorts(&[0, 2, 3]), array(&[2, 2]));
     let elements: [(u16, u16, &[u8]); 6] = [
         (16384 + 702, 2, &record),

@@ -57,10 +57,11 @@ fn a_linked_element_is_read_whole() {
     assert_eq!(granted_bytes(&["read", &path, "0x64", "1", "-"]), expected);
 
     let mut broken = linked_file();
-    broken[73] = 3;
+    broken[65] = 0;
     let path = folder.holding("broken.hdf", &broken);
     let message = refused(&["read", text(&path), "100", "1"]);
-    assert!(message.contains("CHAIN: the linked blocks of the element are broken (number 13, place 10)"), "{message}");
+    let expected = "CHAIN: the record of the element's linked blocks breaks its layout (number 13, place 10)";
+    assert!(message.contains(expected), "{message}");
     broken[49] = 3;
     let path = folder.holding("other.hdf", &broken);
     assert!(refused(&["read", text(&path), "100", "1"]).contains("(number 12, place 10)"));

@@ -2,6 +2,7 @@
 
 mod common;
 
+use common::files::linked_record;
 use common::terminal::on_a_terminal;
 use common::{granted, program, refused, text, Folder};
 use std::fs::{self, File};
@@ -98,8 +99,7 @@ fn groups_that_share_a_long_record_take_memory_that_may_be_missing() {
 fn linked_file() -> Vec<u8> {
     let block = vec![0x2a; 65536];
     let table: Vec<u8> = [&[0, 0][..], &[0, 2].repeat(65535)].concat();
-    let numbers = [1u32, 65536 * 65535, 65536, 65536, 65535];
-    let record: Vec<u8> = [numbers.map(u32::to_be_bytes).concat(), vec![0, 1]].concat();
+    let record = linked_record([65536 * 65535, 65536, 65536, 65535], 1);
     file_of(&[(16384 + 100, 1, &record), (20, 1, &table), (20, 2, &block)])
 }
 

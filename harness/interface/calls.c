@@ -12,6 +12,7 @@ enum { BEHIND = 0xee };
 
 static uint8_t file[FILE_LENGTH];
 static uint8_t small[SMALL_LENGTH];
+static uint8_t linked[LINKED_LENGTH];
 static uint8_t out[100];
 
 /* A lent output before a call. */
@@ -51,20 +52,12 @@ static void open_and_find(void)
     need(hdf4_list(file, 398, table, 35).number == HDF4_SMALL, "hdf4_list without room");
 }
 
-static void view_and_copy(void)
+static void view_and_choose(void)
 {
     hdf4_view_answer v = hdf4_view(file, 398, 100, 1);
     need(v.number == 0 && v.place == 0 && v.offset == 367 && v.length == 9, "hdf4_view");
     v = hdf4_view(file, 398, 100, 9);
     need(v.number == HDF4_STORAGE && v.place == 124 && v.offset == 0 && v.length == 0, "hdf4_view, refused");
-
-    fill();
-    hdf4_copy_answer c = hdf4_copy(file, 398, 100, 1, out, 10);
-    need(c.number == 0 && c.place == 0 && c.length == 9 && holds("hub roads", 9), "hdf4_copy");
-    fill();
-    c = hdf4_copy(file, 398, 100, 9, out, 10);
-    need(c.number == HDF4_STORAGE && c.place == 124 && c.length == 0 && holds("", 0), "hdf4_copy, refused");
-    need(hdf4_copy(file, 398, 100, 1, out, 8).number == HDF4_SMALL, "hdf4_copy without room");
 
     hdf4_choose_answer h = hdf4_choose(small, 37, file, 398, 1965, 5);
     need(h.number == 0 && h.place == 0 && h.which == 2 && h.offset == 227 && h.length == 18, "hdf4_choose, the fallback");
@@ -72,6 +65,25 @@ static void view_and_copy(void)
     need(h.number == 0 && h.place == 0 && h.which == 1 && h.offset == 34 && h.length == 3, "hdf4_choose, the current one");
     h = hdf4_choose(small, 37, file, 397, 100, 1);
     need(h.number == HDF4_OUTSIDE && h.place == 124 && h.which == 0 && h.offset == 0 && h.length == 0, "hdf4_choose, refused");
+}
+
+/* Whether a copy answers these numbers. */
+static int copies(hdf4_copy_answer answer, uint64_t number, uint64_t place, uint64_t length, uint64_t index)
+{
+    return answer.number == number && answer.place == place && answer.length == length && answer.index == index;
+}
+
+static void copy(void)
+{
+    fill();
+    need(copies(hdf4_copy(file, 398, 100, 1, out, 10), 0, 0, 9, 0) && holds("hub roads", 9), "hdf4_copy");
+    fill();
+    need(copies(hdf4_copy(file, 398, 100, 9, out, 10), HDF4_STORAGE, 124, 0, 0) && holds("", 0), "hdf4_copy, refused");
+    need(copies(hdf4_copy(file, 398, 100, 1, out, 8), HDF4_SMALL, 0, 0, 0), "hdf4_copy without room");
+
+    need(copies(hdf4_copy(linked, 77, 302, 4, out, 5), HDF4_NO_BLOCK, 34, 0, 1) && holds("", 0), "hdf4_copy without block 1");
+    linked[55 + 7] = 3;
+    need(copies(hdf4_copy(linked, 77, 302, 4, out, 5), 0, 0, 3, 0) && holds("hub", 3), "hdf4_copy of block 0 alone");
 }
 
 static void edit_and_undo(void)
@@ -240,17 +252,21 @@ static void names(void)
     need(strcmp(hdf4_refusal_name(UINT64_MAX), "UNKNOWN") == 0, "hdf4_refusal_name of the greatest number");
     need(strcmp(hdf4_refusal_text(HDF4_TOO_LONG), "the file is too long") == 0, "hdf4_refusal_text of TOO_LONG");
     need(strcmp(hdf4_refusal_text(HDF4_DEEP), "groups are nested more than 16 deep") == 0, "hdf4_refusal_text of DEEP");
+    need(strcmp(hdf4_refusal_text(HDF4_NO_BLOCK), "a linked block of the element is not there") == 0,
+         "hdf4_refusal_text of NO_BLOCK");
     for (uint64_t number = 0; number < 100; number++)
         need(hdf4_refusal_text(number)[0] != 0, "hdf4_refusal_text of every number");
-    need(strcmp(HDF4_VERSION, "0.1.0") == 0, "HDF4_VERSION");
+    need(strcmp(HDF4_VERSION, "0.2.0") == 0, "HDF4_VERSION");
 }
 
 int main(void)
 {
     make_file(file);
     make_small(small);
+    make_linked(linked);
     open_and_find();
-    view_and_copy();
+    view_and_choose();
+    copy();
     edit_and_undo();
     edit_room();
     records();

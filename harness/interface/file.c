@@ -32,6 +32,11 @@ const uint8_t head[66] = {
     0, 31, 0, 32, 0, 3, 0, 33,
 };
 
+/* Of an element in linked blocks: no next table, blocks 7 and 8; and kind 1, 5 bytes, 3 in the first block and 2 in another, 2 blocks
+ * in a table, table 6. */
+static const uint8_t table[6] = {0, 0, 0, 7, 0, 8};
+static const uint8_t linked[22] = {0, 0, 0, 1, 0, 0, 0, 5, 0, 0, 0, 3, 0, 0, 0, 2, 0, 0, 0, 2, 0, 6};
+
 static void put(uint8_t *file, int place, const uint8_t *bytes, size_t length)
 {
     memcpy(file + place, bytes, length);
@@ -69,4 +74,16 @@ void make_small(uint8_t *file)
     put_slot(file + 10, 100, 1, 34, 3);
     put_slot(file + 22, 1, 0, 0, 0);
     memcpy(file + 34, "hub", 3);
+}
+
+void make_linked(uint8_t *file)
+{
+    put_32(file, 0x0e031301);
+    put_block(file + 4, 3, 0);
+    put_slot(file + 10, 20, 6, 46, 6);
+    put_slot(file + 22, 20, 7, 52, 3);
+    put_slot(file + 34, 16686, 4, 55, 22);
+    put(file, 46, table, sizeof table);
+    memcpy(file + 52, "hub", 3);
+    put(file, 55, linked, sizeof linked);
 }

@@ -25,6 +25,14 @@ enum { FILE_LENGTH = 398 };
 /* A file of one element, 100/1 with three bytes at 34, and a free slot. */
 enum { SMALL_LENGTH = 37 };
 
+/* A file of one element in linked blocks. Its second block, 20/8, is not there:
+ *
+ *     slot 10     20/6        its table, 6 bytes at 46
+ *     slot 22     20/7        its first block, 3 bytes at 52
+ *     slot 34     16686/4     its record, 22 bytes at 55
+ */
+enum { LINKED_LENGTH = 77 };
+
 /* The slots as they are listed, and the records as they stand in the file. */
 extern const uint32_t file_slots[9][4];
 extern const uint8_t number_type[4];
@@ -36,5 +44,6 @@ extern const uint8_t head[66];
 /* Write the files. */
 void make_file(uint8_t *file);
 void make_small(uint8_t *file);
+void make_linked(uint8_t *file);
 
 #endif

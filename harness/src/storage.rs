@@ -6,6 +6,11 @@ use std::ops::Range;
 
 pub const STORAGE: u64 = 12;
 pub const CHAIN: u64 = 13;
+pub const NO_TABLE: u64 = 23;
+pub const SHORT_TABLE: u64 = 24;
+pub const NO_BLOCK: u64 = 25;
+pub const SHORT_BLOCK: u64 = 26;
+pub const TABLE_LOOP: u64 = 27;
 
 /// The kind of an extended element that is linked blocks.
 pub const LINKED: u32 = 1;
@@ -38,23 +43,24 @@ pub enum Way {
     FirstLength,
     BlockLength,
     BlockCount,
+    Room,
     TableZero,
     TableAbsent,
     TableExtended,
     TableShort,
-    TableTwice,
-    TooManyTables,
     BlockZero,
     BlockAbsent,
     BlockExtended,
     BlockShort,
-    Room,
+    TableTwice,
+    TooManyTables,
 }
 
-/// A refused call: its answer, and the rule that decided it.
+/// A refused call: its answer, with the index of a broken table or block, else 0; and the rule that decided it.
 #[derive(Clone, Copy, Debug)]
 pub struct Refused {
     pub refusal: Refusal,
+    pub index: u64,
     pub way: Way,
 }
 
@@ -70,6 +76,28 @@ struct Record {
     block_length: u32,
     block_count: u32,
     table: u16,
+}
+
+/// A rule that a table or a block breaks: its number, and how it is broken.
+type Breach = (u64, Way);
+
+/// Why there is no plain table or block with a reference.
+enum NotThere {
+    Zero,
+    Absent,
+    Extended,
+}
+
+/// A walk through the tables of a linked element: the tables walked, how many blocks were taken from, and their bytes.
+struct Walk<'a> {
+    image: &'a [u8],
+    directory: &'a Directory,
+    record: Record,
+    /// The slot of the element.
+    place: u64,
+    tables: Vec<u16>,
+    blocks: usize,
+    bytes: Vec<u8>,
 }
 
 /// The element's own part of the image, 0..0 where it has no bytes.
@@ -138,7 +166,7 @@ fn extended<T>(slot: &Slot, way: Way) -> Result<T, Refused> {
 }
 
 fn opened(opening: &Opening) -> Result<&Directory, Refused> {
-    opening.as_ref().map_err(|refusal| Refused { refusal: *refusal, way: Way::Opening })
+    opening.as_ref().map_err(|refusal| Refused { refusal: *refusal, index: 0, way: Way::Opening })
 }
 
 /// The live slot with that base tag and reference.
@@ -167,7 +195,7 @@ fn judge_room(length: u64, room: usize) -> Result<(), Refused> {
 fn copy_extended(image: &[u8], directory: &Directory, slot: &Slot, room: usize) -> Reading<Vec<u8>> {
     let record = read_record(bytes_of(image, slot), slot.place)?;
     judge_room(record.length.into(), room)?;
-    follow(image, directory, &record).or_else(|way| refuse(CHAIN, slot.place, way))
+    Walk { image, directory, record, place: slot.place, tables: Vec::new(), blocks: 0, bytes: Vec::new() }.follow()
 }
 
 fn read_record(bytes: &[u8], slot: u64) -> Result<Record, Refused> {
@@ -195,71 +223,93 @@ fn read_record(bytes: &[u8], slot: u64) -> Result<Record, Refused> {
     }
 }
 
-/// Follows the tables and takes from their blocks until the length is reached.
-fn follow(image: &[u8], directory: &Directory, record: &Record) -> Result<(Vec<u8>, Way), Way> {
-    let length = record.length as usize;
-    let mut bytes = Vec::new();
-    let mut walked: Vec<u16> = Vec::new();
-    let mut reference = record.table;
-    while bytes.len() < length {
-        let table = needed_table(image, directory, record, reference, &walked)?;
-        walked.push(reference);
-        reference = number16(table, 0);
-        for entry in table[2..].chunks_exact(2).take(record.block_count as usize) {
-            if bytes.len() < length {
-                let most = if bytes.is_empty() { record.first_length } else { record.block_length };
-                let wanted = (length - bytes.len()).min(most as usize);
-                bytes.extend(needed_block(image, directory, number16(entry, 0), wanted)?);
+impl<'a> Walk<'a> {
+    /// Follows the tables and takes from their blocks until the length is reached. The first broken one answers.
+    fn follow(mut self) -> Reading<Vec<u8>> {
+        let mut reference = self.record.table;
+        while self.missing() > 0 {
+            let table = self.table(reference).map_err(|breach| self.broken(breach, self.tables.len()))?;
+            self.tables.push(reference);
+            reference = number16(table, 0);
+            for entry in table[2..].chunks_exact(2).take(self.record.block_count as usize) {
+                if self.missing() > 0 {
+                    let bytes = self.block(number16(entry, 0)).map_err(|breach| self.broken(breach, self.blocks))?;
+                    self.bytes.extend(bytes);
+                    self.blocks += 1;
+                }
             }
         }
+        let way = match self.tables.len() {
+            0 => Way::LinkedEmpty,
+            1 => Way::OneTable,
+            MOST_TABLES => Way::MostTables,
+            _ => Way::Tables,
+        };
+        Ok((self.bytes, way))
     }
-    let way = match walked.len() {
-        0 => Way::LinkedEmpty,
-        1 => Way::OneTable,
-        MOST_TABLES => Way::MostTables,
-        _ => Way::Tables,
-    };
-    Ok((bytes, way))
+
+    /// How many bytes are still to be taken.
+    fn missing(&self) -> usize {
+        self.record.length as usize - self.bytes.len()
+    }
+
+    /// A whole table: the next reference and all block references. Whether it may come is asked before it is looked up.
+    fn table(&self, reference: u16) -> Result<&'a [u8], Breach> {
+        if self.tables.contains(&reference) {
+            return Err((TABLE_LOOP, Way::TableTwice));
+        }
+        if self.tables.len() == MOST_TABLES {
+            return Err((TABLE_LOOP, Way::TooManyTables));
+        }
+        let bytes = self.linked(reference).map_err(|fault| (NO_TABLE, fault.of_table()))?;
+        if (bytes.len() as u64) < 2 + 2 * u64::from(self.record.block_count) {
+            return Err((SHORT_TABLE, Way::TableShort));
+        }
+        Ok(bytes)
+    }
+
+    /// The bytes taken from the front of the next block.
+    fn block(&self, reference: u16) -> Result<&'a [u8], Breach> {
+        let most = if self.blocks == 0 { self.record.first_length } else { self.record.block_length };
+        let taken = self.missing().min(most as usize);
+        let bytes = self.linked(reference).map_err(|fault| (NO_BLOCK, fault.of_block()))?;
+        bytes.get(..taken).ok_or((SHORT_BLOCK, Way::BlockShort))
+    }
+
+    /// The bytes of the table or block with a reference, which must be there and plain.
+    fn linked(&self, reference: u16) -> Result<&'a [u8], NotThere> {
+        if reference == 0 {
+            return Err(NotThere::Zero);
+        }
+        match self.directory.slot(LINK_TAG, reference) {
+            None => Err(NotThere::Absent),
+            Some(slot) if is_extended(slot) => Err(NotThere::Extended),
+            Some(slot) => Ok(bytes_of(self.image, slot)),
+        }
+    }
+
+    /// The refusal by a table or a block with an index, at the slot of the element.
+    fn broken(&self, (number, way): Breach, index: usize) -> Refused {
+        Refused { refusal: Refusal { number, place: self.place }, index: index as u64, way }
+    }
 }
 
-/// A whole table: the next reference and all block references.
-fn needed_table<'a>(
-    image: &'a [u8],
-    directory: &Directory,
-    record: &Record,
-    reference: u16,
-    walked: &[u16],
-) -> Result<&'a [u8], Way> {
-    if walked.len() == MOST_TABLES {
-        return Err(Way::TooManyTables);
+impl NotThere {
+    fn of_table(self) -> Way {
+        match self {
+            NotThere::Zero => Way::TableZero,
+            NotThere::Absent => Way::TableAbsent,
+            NotThere::Extended => Way::TableExtended,
+        }
     }
-    if reference == 0 {
-        return Err(Way::TableZero);
-    }
-    if walked.contains(&reference) {
-        return Err(Way::TableTwice);
-    }
-    let slot = directory.slot(LINK_TAG, reference).ok_or(Way::TableAbsent)?;
-    if is_extended(slot) {
-        return Err(Way::TableExtended);
-    }
-    let bytes = bytes_of(image, slot);
-    if (bytes.len() as u64) < 2 + 2 * u64::from(record.block_count) {
-        return Err(Way::TableShort);
-    }
-    Ok(bytes)
-}
 
-/// The bytes taken from the front of a block.
-fn needed_block<'a>(image: &'a [u8], directory: &Directory, reference: u16, wanted: usize) -> Result<&'a [u8], Way> {
-    if reference == 0 {
-        return Err(Way::BlockZero);
+    fn of_block(self) -> Way {
+        match self {
+            NotThere::Zero => Way::BlockZero,
+            NotThere::Absent => Way::BlockAbsent,
+            NotThere::Extended => Way::BlockExtended,
+        }
     }
-    let slot = directory.slot(LINK_TAG, reference).ok_or(Way::BlockAbsent)?;
-    if is_extended(slot) {
-        return Err(Way::BlockExtended);
-    }
-    bytes_of(image, slot).get(..wanted).ok_or(Way::BlockShort)
 }
 
 /// The bytes that the slot's element has in the image.
@@ -279,5 +329,5 @@ fn number32(bytes: &[u8], place: usize) -> u32 {
 }
 
 fn refuse<T>(number: u64, place: u64, way: Way) -> Result<T, Refused> {
-    Err(Refused { refusal: Refusal { number, place }, way })
+    Err(Refused { refusal: Refusal { number, place }, index: 0, way })
 }

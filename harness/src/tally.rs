@@ -3,7 +3,7 @@
 use crate::editor::{Reason, BAD_TRAILER, NO_EDIT, NO_ROOM, PRESENT};
 use crate::reader::{ABSENT, SMALL, TWICE};
 use crate::records::{Cause, DEEP, NO_VALUE, RECORD, TYPE};
-use crate::storage::{Way, CHAIN, STORAGE};
+use crate::storage::{Way, CHAIN, NO_BLOCK, NO_TABLE, SHORT_BLOCK, SHORT_TABLE, STORAGE, TABLE_LOOP};
 use crate::vset::TYPES;
 use std::fmt;
 
@@ -109,18 +109,21 @@ const WAYS: [(Way, &str); 32] = [
     (Way::FirstLength, "13 first_len 0"),
     (Way::BlockLength, "13 blk_len 0"),
     (Way::BlockCount, "13 num_blk 0"),
-    (Way::TableZero, "13 table ref 0"),
-    (Way::TableAbsent, "13 table absent"),
-    (Way::TableExtended, "13 table extended"),
-    (Way::TableShort, "13 table short"),
-    (Way::TableTwice, "13 table twice"),
-    (Way::TooManyTables, "13 257th table"),
-    (Way::BlockZero, "13 block ref 0"),
-    (Way::BlockAbsent, "13 block absent"),
-    (Way::BlockExtended, "13 block extended"),
-    (Way::BlockShort, "13 block short"),
     (Way::Room, "14 room"),
+    (Way::TableZero, "23 table ref 0"),
+    (Way::TableAbsent, "23 table absent"),
+    (Way::TableExtended, "23 table extended"),
+    (Way::TableShort, "24 table short"),
+    (Way::BlockZero, "25 block ref 0"),
+    (Way::BlockAbsent, "25 block absent"),
+    (Way::BlockExtended, "25 block extended"),
+    (Way::BlockShort, "26 block short"),
+    (Way::TableTwice, "27 table twice"),
+    (Way::TooManyTables, "27 257th table"),
 ];
+
+/// The refusals of a copy that have an index.
+const WITH_INDEX: [u64; 5] = [NO_TABLE, SHORT_TABLE, NO_BLOCK, SHORT_BLOCK, TABLE_LOOP];
 
 /// The causes of an answer of a call on records, with their names in the table.
 const CAUSES: [(Cause, &str); 43] = [
@@ -178,6 +181,8 @@ pub struct Tally {
     reached: [[u64; NUMBERS]; CALLS.len()],
     broken: [[u64; REASONS.len()]; CALLS.len()],
     gone: [[u64; WAYS.len()]; CALLS.len()],
+    /// Copies refused at the first table or block, and at a later one.
+    indices: [[u64; 2]; WITH_INDEX.len()],
     caused: Causes,
     /// Values read of each type, by record and by field.
     values: [[u64; 2]; TYPES.len()],
@@ -237,7 +242,7 @@ impl Call {
             Call::List => &[SMALL],
             Call::Find => &[ABSENT],
             Call::View | Call::Choose => &[ABSENT, STORAGE],
-            Call::Copy => &[ABSENT, STORAGE, CHAIN, SMALL],
+            Call::Copy => &[ABSENT, STORAGE, CHAIN, SMALL, NO_TABLE, SHORT_TABLE, NO_BLOCK, SHORT_BLOCK, TABLE_LOOP],
             Call::Add => &[PRESENT, NO_ROOM],
             Call::Replace | Call::Remove => &[ABSENT, NO_ROOM],
             Call::Undo => &[NO_EDIT, BAD_TRAILER],
@@ -329,6 +334,13 @@ impl Tally {
         self.gone[call as usize][way as usize] += 1;
     }
 
+    /// The index in the answer to a copy, where its number has one.
+    pub fn count_index(&mut self, number: u64, index: u64) {
+        if let Some(row) = WITH_INDEX.iter().position(|known| *known == number) {
+            self.indices[row][usize::from(index > 0)] += 1;
+        }
+    }
+
     pub fn count_cause(&mut self, call: Call, cause: Cause) {
         self.caused.0[call as usize][cause as usize] += 1;
     }
@@ -348,6 +360,7 @@ impl Tally {
         add_each(&mut self.reached, &other.reached);
         add_each(&mut self.broken, &other.broken);
         add_each(&mut self.gone, &other.gone);
+        add_each(&mut self.indices, &other.indices);
         add_each(&mut self.caused.0, &other.caused.0);
         add_each(&mut self.values, &other.values);
     }
@@ -366,11 +379,14 @@ impl Tally {
         let ways = ways.map(|((_, title), call)| name(call, title));
         let causes = cells(CAUSES.into_iter()).filter(|((cause, _), call)| self.cause(*call, *cause) == Some(0));
         let causes = causes.map(|((_, title), call)| name(call, title));
+        let indices = self.index_counts().filter(|(_, counts)| counts.contains(&Some(0)));
+        let indices =
+            indices.map(|(number, _)| name(Call::Copy, &format!("{number} at the first or at a later index")));
         let values = TYPES.iter().zip(&self.values).filter(|(_, counts)| counts.contains(&0));
         let values = values.map(|((number_type, _), _)| name(Call::ReadValue, &format!("type {number_type}")));
         let starts = (self.undone_starts == 0).then(|| name(Call::Undo, "an edit before the sequence"));
         let reasons = reasons.map(|((_, title), call)| name(call, title));
-        numbers.chain(reasons).chain(ways).chain(causes).chain(values).chain(starts).collect()
+        numbers.chain(reasons).chain(ways).chain(indices).chain(causes).chain(values).chain(starts).collect()
     }
 
     /// How often a call answered a number, where it can.
@@ -381,6 +397,15 @@ impl Tally {
     /// How often a call came to an answer in a way, where it can.
     fn way(&self, call: Call, way: Way) -> Option<u64> {
         call.can_go(way).then(|| self.gone[call as usize][way as usize])
+    }
+
+    /// How often a copy was refused with each number at the first table or block, and at a later one. The first table repeats
+    /// none.
+    fn index_counts(&self) -> impl Iterator<Item = (u64, [Option<u64>; 2])> + '_ {
+        let counts = |(number, [first, later]): (u64, &[u64; 2])| {
+            (number, [(number != TABLE_LOOP).then_some(*first), Some(*later)])
+        };
+        WITH_INDEX.into_iter().zip(&self.indices).map(counts)
     }
 
     /// How often a call came to an answer by a cause, where it can.
@@ -416,6 +441,10 @@ impl fmt::Display for Tally {
         head(out, "reading", READS.iter().map(|call| call.title()))?;
         for (way, title) in WAYS {
             row(out, title, READS.iter().map(|call| self.way(*call, way)))?;
+        }
+        head(out, "index of a copy", ["first", "later"].into_iter())?;
+        for (number, counts) in self.index_counts() {
+            row(out, &number.to_string(), counts.into_iter())?;
         }
         head(out, "record", on_records.iter().map(|call| call.title()))?;
         for (cause, title) in CAUSES {

@@ -2,6 +2,7 @@
 
 use crate::{base_tag, list_group, open, read_array, read_dimension, read_group, read_number_type, read_value, read_vdata};
 use crate::{Array, Counts, Dimension, Element, Error, Group, NumberType, Pair, Rule, Value, Vdata, EDIT_ROOM};
+use crate::{CopyError, Link};
 use std::fmt;
 use std::iter::FusedIterator;
 use std::vec;
@@ -107,7 +108,8 @@ impl File {
     /// An element's bytes, plain or of linked blocks, at most `most` of them.
     ///
     /// An element of linked blocks may be longer than its file, up to 4 GB, since blocks can be named twice: `most` says what
-    /// the caller will bear. A longer element is refused with [`Rule::Small`], and so is one that there is no memory for.
+    /// the caller will bear. A longer element is refused with [`Rule::Small`], and so is one that there is no memory for. Where
+    /// linked blocks are broken the refusal says which table or block is.
     ///
     /// ```
     /// # fn main() -> Result<(), hdf4::Error> {
@@ -118,7 +120,7 @@ impl File {
     /// # Ok(())
     /// # }
     /// ```
-    pub fn copy(&self, tag: u16, reference: u16, most: usize) -> Result<Vec<u8>, Error> {
+    pub fn copy(&self, tag: u16, reference: u16, most: usize) -> Result<Vec<u8>, CopyError> {
         let part = match self.view(tag, reference) {
             Err(Error { rule: Rule::Storage, .. }) => return self.copy_linked(tag, reference, most),
             part => part?,
@@ -132,20 +134,26 @@ impl File {
     }
 
     /// Its length is not known before: the room grows until the element fits.
-    fn copy_linked(&self, tag: u16, reference: u16, most: usize) -> Result<Vec<u8>, Error> {
+    fn copy_linked(&self, tag: u16, reference: u16, most: usize) -> Result<Vec<u8>, CopyError> {
         let mut bytes = Vec::new();
         let mut room = most.min(self.bytes.len());
         loop {
             bytes.try_reserve_exact(room - bytes.len()).map_err(|_| SMALL)?;
             bytes.resize(room, 0);
             match crate::copy(&self.bytes, tag, reference, &mut bytes) {
-                Err(Error { rule: Rule::Small, .. }) if room < most => room = most.min(2 * room),
+                Err(CopyError { rule: Rule::Small, .. }) if room < most => room = most.min(2 * room),
                 copied => {
                     bytes.truncate(copied?);
                     return Ok(bytes);
                 }
             }
         }
+    }
+
+    /// The reference of a table or block of the element whose slot is at a place, as
+    /// [`link_reference`](crate::link_reference) gives it.
+    pub fn link_reference(&self, place: u64, link: Link) -> Option<u16> {
+        crate::link_reference(&self.bytes, place, link)
     }
 
     /// Adds an element, as [`add`](crate::add) does. Where there is no memory for it, [`Rule::NoRoom`] refuses it.
@@ -220,7 +228,7 @@ impl File {
 }
 
 /// The refusal of a copy that is longer than the room for it.
-const SMALL: Error = Error { rule: Rule::Small, place: 0 };
+const SMALL: CopyError = CopyError { rule: Rule::Small, place: 0, link: None };
 
 /// The bytes, so that every function that takes an image takes a file.
 impl AsRef<[u8]> for File {

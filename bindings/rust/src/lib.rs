@@ -12,7 +12,8 @@
 //! one.
 //!
 //! [`view`] gives an element's own part of the image, [`choose`] that of the first of two images that has the element, and
-//! [`copy`] writes its bytes to a buffer, also where the element is of linked blocks.
+//! [`copy`] writes its bytes to a buffer, also where the element is of linked blocks. Where these are broken its [`CopyError`]
+//! says which table or block is, and [`link_reference`] gives the reference of that one.
 //!
 //! # Records
 //!
@@ -60,11 +61,13 @@
 #![deny(missing_docs)]
 
 mod file;
+mod links;
 mod records;
 mod rule;
 mod vset;
 
 pub use file::{elements, Elements, File};
+pub use links::{link_reference, CopyError, Link, Links};
 pub use records::{pack_array, pack_dimension, pack_number_type, read_array, read_dimension, read_number_type};
 pub use records::{Array, Dimension, NumberType, Pair};
 pub use rule::Rule;
@@ -195,10 +198,10 @@ pub fn view(image: &[u8], tag: u16, reference: u16) -> Result<&[u8], Error> {
 }
 
 /// Copies an element's bytes to the front of `out` and gives their number; the rest of `out` stays as it was. The element is
-/// plain or of linked blocks.
-pub fn copy(image: &[u8], tag: u16, reference: u16, out: &mut [u8]) -> Result<usize, Error> {
+/// plain or of linked blocks. Where these are broken the refusal says which table or block is.
+pub fn copy(image: &[u8], tag: u16, reference: u16, out: &mut [u8]) -> Result<usize, CopyError> {
     let a = ffi::copy(image, tag, reference, out);
-    granted(a.number, a.place, a.length as usize)
+    granted(a.number, a.place, a.length as usize).map_err(|_| CopyError::new(a.number, a.place, a.index))
 }
 
 /// Gives an element's own part of the current image or, where that has no such element, of the fallback.
@@ -327,6 +330,8 @@ pub(crate) mod tests {
         assert_eq!(rule(copy(&LINKED, 100, 1, &mut out)), (Rule::Small, 14, 0));
         let mut broken = LINKED;
         broken[73] = 3;
+        assert_eq!(rule(copy(&broken, 100, 1, &mut [BEHIND; 7])), (Rule::NoBlock, 25, 10));
+        broken[65] = 0;
         assert_eq!(rule(copy(&broken, 100, 1, &mut [BEHIND; 7])), (Rule::Chain, 13, 10));
         broken[49] = 3;
         assert_eq!(rule(copy(&broken, 100, 1, &mut out)), (Rule::Storage, 12, 10));
@@ -358,8 +363,8 @@ pub(crate) mod tests {
     }
 
     /// The rule, number and place of a refusal.
-    pub fn rule<T: fmt::Debug>(answer: Result<T, Error>) -> (Rule, u64, u64) {
-        let error = answer.unwrap_err();
+    pub fn rule<T: fmt::Debug, E: Into<Error>>(answer: Result<T, E>) -> (Rule, u64, u64) {
+        let error: Error = answer.map_err(E::into).unwrap_err();
         (error.rule, error.number(), error.place)
     }
 

@@ -32,7 +32,7 @@ pub enum Rule {
     Absent,
     /// The element is extended, and not of a kind that the call reads.
     Storage,
-    /// The linked blocks of the element are broken.
+    /// The record of the element's linked blocks breaks its layout.
     Chain,
     /// The lent output is too short.
     Small,
@@ -52,6 +52,16 @@ pub enum Rule {
     BadTrailer,
     /// Groups are nested past 16; the place is the slot of the 16th.
     Deep,
+    /// A table of the element's linked blocks is absent or extended, or its reference is 0; the index is the table's.
+    NoTable,
+    /// A table of the element's linked blocks has too few bytes for its entries; the index is the table's.
+    ShortTable,
+    /// A linked block is absent or extended, or its reference is 0; the index is the block's, through the whole element.
+    NoBlock,
+    /// A linked block has fewer bytes than are taken from it; the index is the block's, through the whole element.
+    ShortBlock,
+    /// A table of the element's linked blocks is one already walked, or a 257th; the index is the table's.
+    TableLoop,
     /// A rule that this crate does not know, by its number: the library that is linked is a newer one.
     Unknown(u64),
 }
@@ -82,6 +92,11 @@ impl Rule {
             hdf4_sys::NO_EDIT => Rule::NoEdit,
             hdf4_sys::BAD_TRAILER => Rule::BadTrailer,
             hdf4_sys::DEEP => Rule::Deep,
+            hdf4_sys::NO_TABLE => Rule::NoTable,
+            hdf4_sys::SHORT_TABLE => Rule::ShortTable,
+            hdf4_sys::NO_BLOCK => Rule::NoBlock,
+            hdf4_sys::SHORT_BLOCK => Rule::ShortBlock,
+            hdf4_sys::TABLE_LOOP => Rule::TableLoop,
             other => Rule::Unknown(other),
         }
     }
@@ -111,6 +126,11 @@ impl Rule {
             Rule::NoEdit => hdf4_sys::NO_EDIT,
             Rule::BadTrailer => hdf4_sys::BAD_TRAILER,
             Rule::Deep => hdf4_sys::DEEP,
+            Rule::NoTable => hdf4_sys::NO_TABLE,
+            Rule::ShortTable => hdf4_sys::SHORT_TABLE,
+            Rule::NoBlock => hdf4_sys::NO_BLOCK,
+            Rule::ShortBlock => hdf4_sys::SHORT_BLOCK,
+            Rule::TableLoop => hdf4_sys::TABLE_LOOP,
             Rule::Unknown(number) => number,
         }
     }

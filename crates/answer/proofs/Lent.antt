@@ -2,11 +2,11 @@
 use Prim.Native.Nat.{ℕ, zero, suc}
 use mathlib.Core.Path.{_≡_, refl, sym, ap, _∙_}
 use mathlib.Core.List.{List, _++_}
-use lib.ListN.{length, drop}
-use Rattle.answer.specs.Answer.{Answer, grant, refuse, refusal}
+use lib.ListN.{length, drop, replicate}
+use Rattle.answer.specs.Answer.{Answer, grant, refuseWith, refuse, refusalWith, refusal}
 use Rattle.answer.specs.declared.Refusal.{Refusal}
 use Rattle.answer.specs.Lent.{laidOver, Does}
-use Rattle.answer.proofs.Answer.{refusal-is}
+use Rattle.answer.proofs.Answer.{refused-is}
 
 module _ {A : Type 0} (answer : Answer) (given lent : List A) where
   pub laid-refused : (answer .number ≡ 0 → ⊥) → laidOver answer given lent ≡ lent
@@ -22,8 +22,11 @@ module _ {A : Type 0} (answer : Answer) (given lent : List A) where
   laid-granted e = rw (laidOver, e)
 
   -- a refusal leaves the memory
+  pub refusesWith : (values : List ℕ) (n p : ℕ) → answer ≡ refuseWith values n p → (n ≡ 0 → ⊥) → Does answer given lent lent (refusalWith values n p)
+  refusesWith values n p e z = record { answers = refused-is values n p z ∙ sym e; leaves = sym (laid-refused (λ q. z (sym (ap (λ a. a .number) e) ∙ q))) }
+
   pub refuses : (k : ℕ) (r : Refusal) → answer ≡ refuse k (r .number) (r .place) → (r .number ≡ 0 → ⊥) → Does answer given lent lent (refusal k r)
-  refuses k r e z = record { answers = refusal-is k r z ∙ sym e; leaves = sym (laid-refused (λ q. z (sym (ap (λ a. a .number) e) ∙ q))) }
+  refuses k r e z = refusesWith (replicate k 0) (r .number) (r .place) e z
 
   -- what is given lies at its front
   pub grants : (values : List ℕ) → answer ≡ grant values → (after : List A) → after ≡ given ++ drop (length given) lent → Does answer given lent after (grant values)

@@ -2,11 +2,12 @@
 use Prim.Native.Nat.{ℕ, zero, suc, _+_, _-_, _<_, _≤_}
 use native.Mathlib.Omega.{arith}
 use native.Mathlib.Numerals.{add-one}
-use mathlib.Core.Path.{_≡_, refl, ap, _∙_}
+use mathlib.Core.Path.{_≡_, refl, sym, ap, _∙_}
+use mathlib.Core.Logic.{inl, inr}
 use mathlib.Core.List.{[], _∷_, _++_}
 use mathlib.Core.Bool.{Bool, true, false}
 use lib.ListN.{length}
-use Rattle.answer.specs.Search.{any}
+use Rattle.answer.specs.Search.{any, In}
 use Rattle.answer.specs.Links.{linkAfter, linksAfter}
 use Rattle.answer.proofs.Tests.{or-neither}
 use Rattle.answer.proofs.Search.{any-here, any-later, any-nil}
@@ -58,6 +59,20 @@ module _ (next : ℕ → ℕ) where
   unfolding linksAfter
   length-links zero b = refl
   length-links (suc k) b = ap suc (length-links k (next b))
+
+  -- ---- The numbers that are reached
+
+  pub link-in : (k i b : ℕ) → i < k → In (linkAfter next i b) (linksAfter next k b)
+  unfolding linkAfter linksAfter
+  link-in zero i b h = absurd (omega arith)
+  link-in (suc k) zero b h = inl refl
+  link-in (suc k) (suc i) b h = inr (link-in k i (next b) (omega arith))
+
+  pub in-links : (k b x : ℕ) → In x (linksAfter next k b) → (i : ℕ) × (i < k) × (linkAfter next i b ≡ x)
+  unfolding linkAfter linksAfter
+  in-links zero b x h = absurd h
+  in-links (suc k) b x (inl e) = (0, omega arith, sym e)
+  in-links (suc k) b x (inr h) = let r = in-links k (next b) x h in (suc (r .0), omega (arith, r .1), r .2)
 
   -- ---- A search along the links
 

@@ -1,5 +1,5 @@
 -- A result that goes by rules is granted exactly if all of them hold, and refused exactly as the first broken one says. Assumes nothing.
-use Prim.Native.Nat.{ℕ, suc}
+use Prim.Native.Nat.{ℕ, suc, _<_}
 use native.Mathlib.Nat.{suc-ne-zero}
 use mathlib.Core.Path.{_≡_, refl}
 use mathlib.Core.Logic.{_↔_, _⊎_, inl, inr}
@@ -89,3 +89,15 @@ tells-must place false m x Holds rest t r =
 pub tells-judged : (R : Rules) (place fault : ℕ) → Tells R place fault → AllHold R ⊎ ((n : ℕ) × FirstBroken R n place)
 tells-judged R place fault t =
     elim (judged R (t .decided)) [ inl a ↦ inl a | inr b ↦ inr (b .0, rw (t .refuses (b .0) (b .1) (b .2) .2) at (b .2)) ]
+
+-- ---- Numbers
+
+-- every number of the rules is below a bound, and so is that of the first broken one
+abbrev pub Below : ℕ → Rules → Type 0
+Below m done = Unit {0}
+Below m (rule number place Holds rest) = (number < m) × Below m rest
+
+pub broken-below : (m n p : ℕ) (R : Rules) → Below m R → FirstBroken R n p → n < m
+broken-below m n p done b f = absurd f
+broken-below m n p (rule number place Holds rest) b (inl e) = rw (e .0) (b .0)
+broken-below m n p (rule number place Holds rest) b (inr f) = broken-below m n p rest (b .1) (f .1)

@@ -24,6 +24,12 @@ unfolding must
 must-fails false n x e = refl
 must-fails true n x e = absurd (true≢false e)
 
+-- what holds of both holds of what it gives
+pub must-either : (P : ℕ → Type 0) (b : Bool) (n x : ℕ) → P n → P x → P (must b n x)
+unfolding must
+must-either P true n x h k = k
+must-either P false n x h k = h
+
 -- a list of rules that gives 0
 pub passed : (b : Bool) (n x : ℕ) → must b (suc n) x ≡ 0 → (b ≡ true) × (x ≡ 0)
 unfolding must

@@ -1,4 +1,4 @@
--- The refusal numbers, by their names: document 01's table. Assumes nothing.
+-- The refusal numbers, by their names: the table of documents 01 and 02. Assumes nothing.
 use Prim.Native.Nat.{ℕ}
 
 abbrev pub TOO-LONG : ℕ
@@ -66,3 +66,18 @@ BAD-TRAILER = 21
 
 abbrev pub DEEP : ℕ
 DEEP = 22
+
+abbrev pub NO-TABLE : ℕ
+NO-TABLE = 23
+
+abbrev pub SHORT-TABLE : ℕ
+SHORT-TABLE = 24
+
+abbrev pub NO-BLOCK : ℕ
+NO-BLOCK = 25
+
+abbrev pub SHORT-BLOCK : ℕ
+SHORT-BLOCK = 26
+
+abbrev pub TABLE-LOOP : ℕ
+TABLE-LOOP = 27

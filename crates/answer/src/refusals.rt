@@ -1,4 +1,4 @@
-// The refusal numbers, by their names: document 01's table. Above each stand its rule and, behind `Says`, what a person is told.
+// The refusal numbers, by their names: the table of documents 01 and 02. Above each stand its rule and, behind `Says`, what a person is told.
 
 // The image is longer than its buffer or than `MOST_BYTES`, or an edit would make it so.
 // Says: the file is too long.
@@ -48,7 +48,7 @@ pub const ABSENT: usize = 11;
 // Says: the element is stored in a way that is not read here.
 pub const STORAGE: usize = 12;
 
-// The linked blocks of the element are broken.
+// The record of the element's linked blocks breaks its layout.
 pub const CHAIN: usize = 13;
 
 // The lent output is too short.
@@ -84,3 +84,23 @@ pub const BAD_TRAILER: usize = 21;
 // Groups are nested past 16; the place is the slot of the 16th.
 // Says: groups are nested more than 16 deep.
 pub const DEEP: usize = 22;
+
+// A table of the element's linked blocks is absent or extended, or its reference is 0; the index is the table's.
+// Says: a table of the element's linked blocks is not there.
+pub const NO_TABLE: usize = 23;
+
+// A table of the element's linked blocks has too few bytes for its entries; the index is the table's.
+// Says: a table of the element's linked blocks is too short.
+pub const SHORT_TABLE: usize = 24;
+
+// A linked block is absent or extended, or its reference is 0; the index is the block's, through the whole element.
+// Says: a linked block of the element is not there.
+pub const NO_BLOCK: usize = 25;
+
+// A linked block has fewer bytes than are taken from it; the index is the block's, through the whole element.
+// Says: a linked block of the element is too short.
+pub const SHORT_BLOCK: usize = 26;
+
+// A table of the element's linked blocks is one already walked, or a 257th; the index is the table's.
+// Says: the tables of the element's linked blocks repeat or run past 256.
+pub const TABLE_LOOP: usize = 27;

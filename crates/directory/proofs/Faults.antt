@@ -22,7 +22,7 @@ use Rattle.directory.specs.Rules.{Apart, Linked, Live, Clashing}
 use Rattle.directory.specs.Faults.{headerRules, blockRules, slotRules, Each, BlocksHold, SlotsHold, Leads, WholeChain, AtBlock, Faulty}
 use Rattle.answer.proofs.Tests.{and-split, and-both, and-fails, or-split, or-either, or-clear, or-neither, test, not-is, by-test, not-both, fails, same?}
 use Rattle.answer.proofs.Search.{any-none, keep-takes, keep-skips}
-use Rattle.answer.proofs.Rules.{Goes, goes-done, goes-rule, judged, Tells, tells-done, tells-must, tells-judged}
+use Rattle.answer.proofs.Rules.{Goes, goes-done, goes-rule, judged, Tells, tells-done, tells-must, tells-judged, broken-below}
 use Rattle.directory.proofs.Blocks.{slots-snoc, chain-breaks, chain-ends, chain-goes}
 use Rattle.directory.proofs.Slots.{live-is}
 use Rattle.directory.proofs.Opening.{headed-is, open-long, open-other, open-chain, slots-free, slots-live, slots-refuse}
@@ -342,3 +342,19 @@ opening-judged s =
             ]
       ]
     ]
+
+-- ---- Its numbers
+
+faulty-below : (s : List ℕ) (n p : ℕ) → Faulty s n p → n < 11
+faulty-below s n p (inl b) = broken-below 11 n p (headerRules s) (omega arith, (omega arith, tt)) b
+faulty-below s n p (inr (h, inl a)) =
+    broken-below 11 n p (blockRules s (a .0) p) (omega arith, (omega arith, (omega arith, (omega arith, (omega arith, (omega arith, tt)))))) (a .3)
+faulty-below s n p (inr (h, inr (bs, w, (before, after, e, sound, l, b)))) =
+    broken-below 11 n p (slotRules s bs before p) (omega arith, (omega arith, (omega arith, (omega arith, tt)))) b
+
+-- opening answers no number past 10
+pub open-below : (s : List ℕ) → openOf s .number < 11
+open-below s = elim (opening-judged s) [
+  | inl h ↦ let e = ap (λ a. a .number) (sound-opens s (h .0) (h .1)) in omega (arith, e)
+  | inr f ↦ let e = ap (λ a. a .number) (faulty-refused s (f .0) (f .1) (f .2) .0) in omega (arith, e, faulty-below s (f .0) (f .1) (f .2))
+]

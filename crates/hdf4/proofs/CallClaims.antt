@@ -1,25 +1,31 @@
 -- Demand 1 over all calls: what a refused call answers, gives and leaves, and the shape of a granted one. Assumes nothing.
+use Prim.Native.Nat.{ℕ}
 use mathlib.Core.Path.{_≡_, refl}
-use mathlib.Core.List.{List, [], _∷_}
+use mathlib.Core.List.{List, [], _∷_, _++_}
 use lib.ListN.{replicate}
-use Rattle.answer.specs.Answer.{Answer, Proper}
+use Rattle.answer.specs.Answer.{Answer, ProperWith}
 use Rattle.answer.proofs.Lent.{laid-refused}
 use Rattle.wire.specs.Numbers.{part}
 use Rattle.storage.specs.Views.{bytesOf}
 use Rattle.storage.specs.Choices.{chosenBytes}
+use Rattle.storage.proofs.CopyRules.{copy-shape}
 use Rattle.hdf4.specs.Calls.{AnyCall, hdf4-open, hdf4-find, hdf4-list, hdf4-view, hdf4-copy, hdf4-choose, hdf4-add, hdf4-replace, hdf4-remove, hdf4-undo, hdf4-read-number-type, hdf4-read-dimension, hdf4-read-array, hdf4-read-group, hdf4-list-group, hdf4-read-vdata, hdf4-read-fields, hdf4-read-value, hdf4-pack, Memory, numbers, structs, contractOf, Untouched}
 use Rattle.hdf4.proofs.Proper
 
 -- ---- Every call
 
--- the shape of its answer, and no part where its values are zeros
-shape : (c : AnyCall) → let k = contractOf c in Proper (k .count) (k .answer) × (k .answer .values ≡ replicate (k .count) 0 → k .part ≡ [])
+-- what stands beside number and place of a refusal
+abbrev beside : AnyCall → List ℕ
+beside c = replicate (contractOf c .count) 0 ++ contractOf c .carries
+
+-- the shape of its answer, and no part where it is refused
+shape : (c : AnyCall) → ProperWith (beside c) (contractOf c .answer) × (contractOf c .answer .values ≡ beside c → contractOf c .part ≡ [])
 unfolding contractOf bytesOf chosenBytes part
 shape (hdf4-open s) = (Proper.open-proper s, λ e. refl)
 shape (hdf4-find s tag ref) = (Proper.find-proper s tag ref, λ e. refl)
 shape (hdf4-list s table) = (Proper.list-proper s _, λ e. refl)
 shape (hdf4-view s tag ref) = (Proper.view-proper s tag ref, λ e. rw e)
-shape (hdf4-copy s tag ref out) = (Proper.copy-proper s tag ref _, λ e. refl)
+shape (hdf4-copy s tag ref out) = (copy-shape s tag ref _, λ e. refl)
 shape (hdf4-choose s t tag ref) = (Proper.choose-proper s t tag ref, λ e. rw e)
 shape (hdf4-add buffer n tag ref content) = (Proper.add-proper buffer n tag ref content, λ e. refl)
 shape (hdf4-replace buffer n tag ref content) = (Proper.replace-proper buffer n tag ref content, λ e. refl)
@@ -42,9 +48,11 @@ untouched answer z (structs given before ∷ rest) = (laid-refused answer given 
 
 -- ---- The claims
 
--- a refused call answers zeros beside number and place, gives an empty part, and leaves all lent memory as it was
+-- a refused call answers zeros beside number and place, and behind them what it carries, gives an empty part, and leaves all lent memory as it was
 pub refused-clean : (c : AnyCall) → (contractOf c .answer .number ≡ 0 → ⊥)
-    → (contractOf c .answer .values ≡ replicate (contractOf c .count) 0) × Untouched (contractOf c .answer) (contractOf c .memory) × (contractOf c .part ≡ [])
+    → (contractOf c .answer .values ≡ replicate (contractOf c .count) 0 ++ contractOf c .carries)
+    × Untouched (contractOf c .answer) (contractOf c .memory)
+    × (contractOf c .part ≡ [])
 refused-clean c z = let zeros = shape c .0 .refused z in (zeros, untouched (contractOf c .answer) z (contractOf c .memory), shape c .1 zeros)
 
 -- a granted call answers place 0

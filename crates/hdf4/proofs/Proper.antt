@@ -15,7 +15,6 @@ use Rattle.directory.proofs.Faults.{opening-judged, sound-opens, faulty-refused
 use Rattle.storage.specs.Elements.{elementAt, plainOnly, locatedAt, onPlain}
 use Rattle.storage.specs.Views.{viewOf}
 use Rattle.storage.specs.Choices.{chooseFound, chooseOf}
-use Rattle.storage.specs.Copies.{copyAt, copyFound, copyOf}
 use Rattle.storage.specs.declared.element.Element.{Element}
 use Rattle.storage.specs.declared.element.Element.the-variants.{Absent, Plain, Extended}
 use Rattle.storage.specs.declared.element.Located.{Located}
@@ -79,15 +78,6 @@ choose-proper s t tag ref = opened-proper 3 s _ (opened-proper 3 t _ (go (elemen
     go Absent y = plain-proper 3 _ (λ p offset size. proper-grant 3 _) y
     go (Plain p offset size) y = proper-grant 3 _
     go (Extended p) y = proper-refuse 3 12 p (suc-ne-zero 11)
-
-pub copy-proper : (s : List ℕ) (tag ref room : ℕ) → Proper 1 (copyOf s tag ref room)
-unfolding copyOf copyAt
-copy-proper s tag ref room = opened-proper 1 s _ (go (elementAt s (find s tag ref)))
-  where
-    go : (x : Element) → Proper 1 (copyFound s room x)
-    go Absent = proper-refuse 1 11 0 (suc-ne-zero 10)
-    go (Plain p offset size) = proper-unless 1 _ p _ (proper-room 1 _ _ (proper-unless 1 _ p _ (proper-grant 1 _)))
-    go (Extended p) = proper-unless 1 _ p _ (proper-room 1 _ _ (proper-unless 1 _ p _ (proper-grant 1 _)))
 
 -- ---- Records
 

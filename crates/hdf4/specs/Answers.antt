@@ -26,7 +26,7 @@ abbrev pub viewAnswer : ViewAnswer → Answer
 viewAnswer r = record { number = r .number; place = r .place; values = r .offset ∷ r .length ∷ [] }
 
 abbrev pub copyAnswer : CopyAnswer → Answer
-copyAnswer r = record { number = r .number; place = r .place; values = r .length ∷ [] }
+copyAnswer r = record { number = r .number; place = r .place; values = r .length ∷ r .index ∷ [] }
 
 abbrev pub chooseAnswer : ChooseAnswer → Answer
 chooseAnswer r = record { number = r .number; place = r .place; values = r .which ∷ r .offset ∷ r .length ∷ [] }

@@ -13,7 +13,7 @@ use Rattle.journal.specs.Outcomes.{Outcome, outcomeAnswer, fileOf}
 use Rattle.journal.specs.Buffers.{addIn, replaceIn, removeIn, undoIn}
 use Rattle.storage.specs.Elements.{startOf}
 use Rattle.storage.specs.Views.{viewOf, bytesOf}
-use Rattle.storage.specs.Copies.{copyOf, elementBytes}
+use Rattle.storage.specs.Copies.{copyOf, elementBytes, linkIndex}
 use Rattle.storage.specs.Choices.{chooseOf, chosenBytes}
 use Rattle.records.specs.Limits.{array-tag}
 use Rattle.records.specs.Readings.{recordBytes}
@@ -58,21 +58,27 @@ pub data Memory : Type 0 where
   numbers : List ℕ → List ℕ → Memory
   structs : List Field → List Field → Memory
 
--- how many values a call answers beside number and place, its answer, the memory that it is lent, and the part of an image that it gives
+-- how many values a call answers beside number and place, what a refusal carries behind them, its answer, the memory that it is lent, and the part
+-- of an image that it gives
 pub record Contract : Type 0 where
   pub count : ℕ
+  pub carries : List ℕ
   pub answer : Answer
   pub memory : List Memory
   pub part : List ℕ
 
 abbrev answering : ℕ → Answer → Contract
-answering count answer = record { count = count; answer = answer; memory = []; part = [] }
+answering count answer = record { count = count; carries = []; answer = answer; memory = []; part = [] }
 
 abbrev giving : ℕ → Answer → List ℕ → Contract
-giving count answer part = record { count = count; answer = answer; memory = []; part = part }
+giving count answer part = record { count = count; carries = []; answer = answer; memory = []; part = part }
 
 abbrev filling : ℕ → Answer → List Memory → Contract
-filling count answer memory = record { count = count; answer = answer; memory = memory; part = [] }
+filling count answer memory = record { count = count; carries = []; answer = answer; memory = memory; part = [] }
+
+-- lent a buffer, and a refusal carries a value
+abbrev fillingCarrying : ℕ → ℕ → Answer → List Memory → Contract
+fillingCarrying count value answer memory = record { count = count; carries = value ∷ []; answer = answer; memory = memory; part = [] }
 
 abbrev editing : Outcome → List ℕ → Contract
 editing outcome buffer = filling 1 (outcomeAnswer outcome) (numbers (fileOf outcome) buffer ∷ [])
@@ -82,7 +88,8 @@ contractOf (hdf4-open s) = answering 3 (openOf s)
 contractOf (hdf4-find s tag ref) = answering 1 (findOf s tag ref)
 contractOf (hdf4-list s table) = filling 1 (listOf s (length table)) (numbers (elementsOf s) table ∷ [])
 contractOf (hdf4-view s tag ref) = giving 2 (viewOf s tag ref) (bytesOf s (viewOf s tag ref))
-contractOf (hdf4-copy s tag ref out) = filling 1 (copyOf s tag ref (length out)) (numbers (elementBytes s tag ref) out ∷ [])
+contractOf (hdf4-copy s tag ref out) =
+    let answer = copyOf s tag ref (length out) in fillingCarrying 1 (linkIndex answer) answer (numbers (elementBytes s tag ref) out ∷ [])
 contractOf (hdf4-choose s t tag ref) = giving 3 (chooseOf s t tag ref) (chosenBytes s t (chooseOf s t tag ref))
 contractOf (hdf4-add buffer n tag ref content) = editing (addIn buffer n tag ref content) buffer
 contractOf (hdf4-replace buffer n tag ref content) = editing (replaceIn buffer n tag ref content) buffer

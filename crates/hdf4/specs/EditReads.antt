@@ -12,10 +12,10 @@ pub record GivesContent (file : List ℕ) (tag ref : ℕ) (content : List ℕ) :
   pub offset : ℕ
   pub viewed : viewOf file tag ref ≡ grant (offset ∷ length content ∷ [])
   pub part-is : bytesOf file (viewOf file tag ref) ≡ content
-  pub copied : (out : List ℕ) → length content ≤ length out → copyOf file tag ref (length out) ≡ grant (length content ∷ [])
+  pub copied : (out : List ℕ) → length content ≤ length out → copyOf file tag ref (length out) ≡ grant (length content ∷ 0 ∷ [])
   pub copy-is : (out : List ℕ) → length content ≤ length out → copyAfter file tag ref out ≡ content ++ drop (length content) out
 
 -- both answer that there is no such element
 pub record GivesNothing (file : List ℕ) (tag ref : ℕ) : Type 0 where
   pub viewed : viewOf file tag ref ≡ refuse 2 11 0
-  pub copied : (room : ℕ) → copyOf file tag ref room ≡ refuse 1 11 0
+  pub copied : (room : ℕ) → copyOf file tag ref room ≡ refuse 2 11 0

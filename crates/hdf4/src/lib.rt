@@ -1,8 +1,8 @@
 // The C interface of the library. Link libhdf4.a or libhdf4.so.
 //
 // Every function returns a struct of numbers: number and place first (0 and 0 where the call is granted), then its values in order, zeros
-// where it is refused. A slice passes as a pointer and a length, in entries of its type. A null pointer is allowed exactly where the length
-// is 0. Nothing is written where a call is refused.
+// where it is refused, but for the index of hdf4_copy. A slice passes as a pointer and a length, in entries of its type. A null pointer is
+// allowed exactly where the length is 0. Nothing is written where a call is refused.
 //
 // The numbers of refusals are named below. A place counts bytes from the start of the image.
 //
@@ -82,6 +82,8 @@ pub struct CopyAnswer {
     pub place: u64,
     // Bytes of the element.
     pub length: u64,
+    // Which table or block of the element's linked blocks is broken, counted from 0, where the number is 23 to 27; else 0.
+    pub index: u64,
 }
 
 // An element's own part of one of two images.
@@ -194,7 +196,8 @@ pub extern "C" fn hdf4_view(image: &[u8], tag: u16, reference: u16) -> ViewAnswe
     }
 }
 
-// Copies an element's bytes to the front of a lent output; the rest of it stays as it was. The element is plain or of linked blocks. The
+// Copies an element's bytes to the front of a lent output; the rest of it stays as it was. The element is plain or of linked blocks. Where a
+// table or a block is broken the refusal says which: its place is the element's slot, and its index that of the first one that a walk meets. The
 // output may not lie in the image.
 #[no_mangle]
 pub extern "C" fn hdf4_copy(image: &[u8], tag: u16, reference: u16, out: &mut [u8]) -> CopyAnswer
@@ -207,11 +210,13 @@ pub extern "C" fn hdf4_copy(image: &[u8], tag: u16, reference: u16, out: &mut [u
             number: 0,
             place: 0,
             length: n as u64,
+            index: 0,
         },
         Copied::Refused(r) => CopyAnswer {
             number: r.number as u64,
             place: r.place as u64,
             length: 0,
+            index: r.value as u64,
         },
     }
 }

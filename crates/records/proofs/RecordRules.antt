@@ -7,7 +7,7 @@ use mathlib.Core.Path.{_≡_, refl, sym, ap, _∙_}
 use mathlib.Core.Logic.{_↔_, _⊎_, inl, inr}
 use mathlib.Core.List.{List}
 use mathlib.Core.Bool.{Bool, true, false, false≢true}
-use Rattle.answer.specs.Answer.{Answer, refuse, unless, inRoom}
+use Rattle.answer.specs.Answer.{Answer, refuse, unlessWith, unless, inRoom}
 use Rattle.answer.specs.Search.{Hit, hit, miss, must}
 use Rattle.answer.specs.Rules.{Rules, done, rule, AllHold, FirstBroken}
 use Rattle.answer.specs.declared.Refusal.{Refusal}
@@ -71,7 +71,7 @@ module _ (k : ℕ) where
   -- a test at a place, before others, which holds exactly if the rule does
   pub by-must : (place : ℕ) (b : Bool) (m x : ℕ) (a : Answer) (Holds : Type 0) (rest : Rules) → (b ≡ true) ↔ Holds
       → (Holds → By k rest (unless k x place a)) → By k (rule (suc m) place Holds rest) (unless k (must b (suc m) x) place a)
-  unfolding must unless
+  unfolding must unlessWith
   by-must place true m x a Holds rest t r = let h = t .0 refl in goes-rule _ _ (suc m) place Holds rest (inl h) (λ z. absurd (z h)) r
   by-must place false m x a Holds rest t r =
       let z : Holds → ⊥ = λ h. false≢true (t .1 h) in
@@ -79,7 +79,7 @@ module _ (k : ℕ) where
 
   -- no test is left there
   pub by-rest : (place : ℕ) (a : Answer) (R : Rules) → By k R a → By k R (unless k 0 place a)
-  unfolding unless
+  unfolding unlessWith
   by-rest place a R g = g
 
   -- 14, last

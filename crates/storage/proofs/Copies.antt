@@ -3,14 +3,15 @@ use Prim.Native.Nat.{ℕ, _<_, _≤_}
 use native.Mathlib.Nat.{suc-ne-zero}
 use native.Mathlib.Omega.{arith}
 use mathlib.Core.Path.{_≡_, refl, sym, ap, _∙_}
+use mathlib.Core.Logic.{inl, inr}
 use mathlib.Core.List.{List, [], _∷_}
 use lib.ListN.{length}
-use lib.Dec.{leb}
-use borrow.Author.Tests.{leb-true, le-leb, lt-leb}
-use Rattle.answer.specs.Answer.{Answer, grant, refuse, refusal, unless}
+use borrow.Author.Tests.{le-leb, lt-leb}
+use Rattle.answer.specs.Answer.{Answer, grant, refuse, carried, refuseCarrying, refusal, carrying, unlessCarrying}
 use Rattle.answer.specs.Lent.{Does}
-use Rattle.answer.proofs.Answer.{unless-passes, unless-stops, unless-passed, inRoom-enough, inRoom-short, inRoom-passed}
-use Rattle.answer.proofs.Lent.{refuses, grants}
+use Rattle.answer.proofs.Answer.{unlessWith-passes, unlessWith-stops, unless-passes, unless-stops, inRoom-enough, inRoom-short}
+use Rattle.answer.proofs.Tests.{same?, le?}
+use Rattle.answer.proofs.Lent.{refusesWith, refuses, grants}
 use Rattle.wire.specs.Numbers.{put, part}
 use Rattle.wire.proofs.Numbers.{put-front}
 use Rattle.directory.specs.Slots.{contentAt}
@@ -29,35 +30,59 @@ use Rattle.storage.proofs.Walks.{chain-length}
 
 -- ---- The answer
 
+-- what an element's copy comes to: its record breaks a rule, the buffer is too short, its chain has a fault, or it is copied
+pub data Case (room : ℕ) (x : Stored) : Type 0 where
+  by-record : (x .record-fault ≡ 0 → ⊥) → Case room x
+  by-room : x .record-fault ≡ 0 → room < x .size → Case room x
+  by-chain : x .record-fault ≡ 0 → x .size ≤ room → (x .chain-fault ≡ 0 → ⊥) → Case room x
+  granted : x .record-fault ≡ 0 → x .size ≤ room → x .chain-fault ≡ 0 → Case room x
+
 module _ (room p : ℕ) (x : Stored) where
-  pub copy-record : (x .record-fault ≡ 0 → ⊥) → copyAt room p x ≡ refuse 1 (x .record-fault) p
+  -- what comes after the record and the room
+  chained : Answer
+  chained = unlessCarrying 1 (x .chain-fault) p (x .chain-index) (grant (x .size ∷ 0 ∷ []))
+
+  pub copy-record : (x .record-fault ≡ 0 → ⊥) → copyAt room p x ≡ refuse 2 (x .record-fault) p
   unfolding copyAt
-  copy-record z = unless-stops 1 (x .record-fault) p _ z
+  copy-record z = unless-stops 2 (x .record-fault) p _ z
 
   module _ (sound : x .record-fault ≡ 0) where
-    pub copy-small : room < x .size → copyAt room p x ≡ refuse 1 14 0
+    pub copy-small : room < x .size → copyAt room p x ≡ refuse 2 14 0
     unfolding copyAt
-    copy-small h = unless-passes 1 (x .record-fault) p _ sound ∙ inRoom-short 1 _ _ (lt-leb _ _ h)
+    copy-small h = unless-passes 2 (x .record-fault) p _ sound ∙ inRoom-short 2 _ _ (lt-leb _ _ h)
 
     module _ (fits : x .size ≤ room) where
-      past-room : copyAt room p x ≡ unless 1 (x .chain-fault) p (grant (x .size ∷ []))
-      unfolding copyAt
-      past-room = unless-passes 1 (x .record-fault) p _ sound ∙ inRoom-enough 1 _ _ (le-leb _ _ fits)
+      past-room : copyAt room p x ≡ chained
+      unfolding copyAt chained
+      past-room = unless-passes 2 (x .record-fault) p _ sound ∙ inRoom-enough 2 _ _ (le-leb _ _ fits)
 
-      pub copy-chain : (x .chain-fault ≡ 0 → ⊥) → copyAt room p x ≡ refuse 1 (x .chain-fault) p
-      copy-chain z = past-room ∙ unless-stops 1 (x .chain-fault) p _ z
+      pub copy-chain : (x .chain-fault ≡ 0 → ⊥) → copyAt room p x ≡ refuseCarrying 1 (x .chain-fault) p (x .chain-index)
+      unfolding chained
+      copy-chain z = past-room ∙ unlessWith-stops (carried 1 (x .chain-index)) (x .chain-fault) p _ z
 
-      pub copy-granted : x .chain-fault ≡ 0 → copyAt room p x ≡ grant (x .size ∷ [])
-      copy-granted e = past-room ∙ unless-passes 1 (x .chain-fault) p _ e
+      pub copy-granted : x .chain-fault ≡ 0 → copyAt room p x ≡ grant (x .size ∷ 0 ∷ [])
+      unfolding chained
+      copy-granted e = past-room ∙ unlessWith-passes (carried 1 (x .chain-index)) (x .chain-fault) p _ e
+
+  pub copy-case : Case room x
+  copy-case =
+      elim (same? (x .record-fault) 0) [
+        | inr z ↦ by-record z
+        | inl sound ↦ elim (le? (x .size) room) [
+          | inr z ↦ by-room sound (omega (arith, z))
+          | inl fits ↦ elim (same? (x .chain-fault) 0) [ inl e ↦ granted sound fits e | inr z ↦ by-chain sound fits z ]
+        ]
+      ]
 
   -- a copy that is not refused broke no rule
   pub copy-passed : copyAt room p x .number ≡ 0 → (x .record-fault ≡ 0) × (x .size ≤ room) × (x .chain-fault ≡ 0)
-  unfolding copyAt
   copy-passed e =
-      let r = unless-passed 1 (x .record-fault) p _ e in
-      let m = inRoom-passed 1 (leb (x .size) room) _ (ap (λ a. a .number) (sym (unless-passes 1 (x .record-fault) p _ r)) ∙ e) in
-      let c = past-room r (leb-true _ _ (m .0)) in
-      (r, leb-true _ _ (m .0), unless-passed 1 (x .chain-fault) p _ (ap (λ a. a .number) (sym c) ∙ e))
+      elim copy-case [
+        | by-record z ↦ absurd (z (ap (λ a. a .number) (sym (copy-record z)) ∙ e))
+        | by-room sound small ↦ absurd (suc-ne-zero 13 (ap (λ a. a .number) (sym (copy-small sound small)) ∙ e))
+        | by-chain sound fits z ↦ absurd (z (ap (λ a. a .number) (sym (copy-chain sound fits z)) ∙ e))
+        | granted sound fits c ↦ (sound, fits, c)
+      ]
 
 -- ---- An element in blocks, by its record
 
@@ -66,36 +91,38 @@ module _ (s : List ℕ) (p : ℕ) (r out : List ℕ) where
   abbrev InBlocks : List ℕ → Answer → Type 0
   InBlocks after numbers = Does (copyAt (length out) p (inBlocks s r)) (inBlocks s r .bytes) out after numbers
 
-  pub blocks-record : (n : ℕ) → n ≡ recordFault r → (n ≡ 0 → ⊥) → InBlocks out (refusal 1 (record { number = n; place = p }))
+  pub blocks-record : (n : ℕ) → n ≡ recordFault r → (n ≡ 0 → ⊥) → InBlocks out (refusal 2 (record { number = n; place = p }))
   unfolding inBlocks
-  blocks-record n e z = refuses _ _ out 1 _ (copy-record (length out) p (inBlocks s r) (λ q. z (e ∙ q)) ∙ rw e) z
+  blocks-record n e z = refuses _ _ out 2 _ (copy-record (length out) p (inBlocks s r) (λ q. z (e ∙ q)) ∙ rw e) z
 
   module _ (sound : recordFault r ≡ 0) (d : Description) (is : d ≡ descriptionOf r) where
-    pub blocks-small : length out < d .length → InBlocks out (refuse 1 14 0)
+    pub blocks-small : length out < d .length → InBlocks out (refuse 2 14 0)
     unfolding inBlocks
-    blocks-small h = refuses _ _ out 1 _ (copy-small (length out) p (inBlocks s r) sound (rw is at h)) (λ z. omega arith)
+    blocks-small h = refuses _ _ out 2 _ (copy-small (length out) p (inBlocks s r) sound (rw is at h)) (λ z. omega arith)
 
     module _ (fits : d .length ≤ length out) where
-      pub blocks-chain : (n : ℕ) → n ≡ chainOf s d .fault → (n ≡ 0 → ⊥) → InBlocks out (refusal 1 (record { number = n; place = p }))
+      pub blocks-chain : (n i : ℕ) → n ≡ chainOf s d .fault → i ≡ chainOf s d .index → (n ≡ 0 → ⊥)
+          → InBlocks out (carrying 1 (record { number = n; place = p; value = i }))
       unfolding inBlocks
-      blocks-chain n e z =
+      blocks-chain n i e q z =
           let f : n ≡ chainOf s (descriptionOf r) .fault = rw is at e in
-          refuses _ _ out 1 _ (copy-chain (length out) p (inBlocks s r) sound (rw is at fits) (λ q. z (f ∙ q)) ∙ rw f) z
+          let g : i ≡ chainOf s (descriptionOf r) .index = rw is at q in
+          refusesWith _ _ out (carried 1 i) n p (copy-chain (length out) p (inBlocks s r) sound (rw is at fits) (λ h. z (f ∙ h)) ∙ rw (f, g)) z
 
-      pub blocks-granted : chainOf s d .fault ≡ 0 → (after : List ℕ) → after ≡ put out 0 (chainOf s d .bytes) → InBlocks after (grant (d .length ∷ []))
+      pub blocks-granted : chainOf s d .fault ≡ 0 → (after : List ℕ) → after ≡ put out 0 (chainOf s d .bytes) → InBlocks after (grant (d .length ∷ 0 ∷ []))
       unfolding inBlocks
       blocks-granted e after q =
           let f : chainOf s (descriptionOf r) .fault ≡ 0 = rw is at e in
           let n = chain-length s (descriptionOf r) f in
           let room : descriptionOf r .length ≤ length out = rw is at fits in
-          rw is (grants _ _ out (descriptionOf r .length ∷ []) (copy-granted (length out) p (inBlocks s r) sound room f) after ((rw is at q) ∙ put-front out _ (omega arith)))
+          rw is (grants _ _ out (descriptionOf r .length ∷ 0 ∷ []) (copy-granted (length out) p (inBlocks s r) sound room f) after ((rw is at q) ∙ put-front out _ (omega arith)))
 
 -- ---- The call, where the image opens
 
 module _ (s : List ℕ) (tag ref : ℕ) (sound : openOf s .number ≡ 0) (x : Element) (found : elementAt s (find s tag ref) ≡ x) where
   pub copy-goes : (room : ℕ) → copyOf s tag ref room ≡ copyFound s room x
   unfolding copyOf
-  copy-goes room = opened-goes 1 s _ sound ∙ ap (copyFound s room) found
+  copy-goes room = opened-goes 2 s _ sound ∙ ap (copyFound s room) found
 
   pub bytes-found : elementBytes s tag ref ≡ bytesFound s x
   unfolding elementBytes
@@ -107,22 +134,22 @@ module _ (s : List ℕ) (tag ref : ℕ) (sound : openOf s .number ≡ 0) (x : El
 
 -- what it does with an element in plain storage
 module _ (s : List ℕ) (p offset size : ℕ) (out : List ℕ) where
-  pub plain-small : length out < size → Does (copyAt (length out) p (inPlace s offset size)) (inPlace s offset size .bytes) out out (refuse 1 14 0)
+  pub plain-small : length out < size → Does (copyAt (length out) p (inPlace s offset size)) (inPlace s offset size .bytes) out out (refuse 2 14 0)
   unfolding inPlace
-  plain-small h = refuses _ _ out 1 _ (copy-small (length out) p (inPlace s offset size) refl h) (λ z. omega arith)
+  plain-small h = refuses _ _ out 2 _ (copy-small (length out) p (inPlace s offset size) refl h) (λ z. omega arith)
 
   pub plain-granted : size ≤ length out → length (part s offset size) ≡ size → (after : List ℕ) → after ≡ put out 0 (part s offset size)
-      → Does (copyAt (length out) p (inPlace s offset size)) (inPlace s offset size .bytes) out after (grant (size ∷ []))
+      → Does (copyAt (length out) p (inPlace s offset size)) (inPlace s offset size .bytes) out after (grant (size ∷ 0 ∷ []))
   unfolding inPlace
   plain-granted h l after e =
-      grants _ _ out (size ∷ []) (copy-granted (length out) p (inPlace s offset size) refl h refl) after (e ∙ put-front out _ (omega arith))
+      grants _ _ out (size ∷ 0 ∷ []) (copy-granted (length out) p (inPlace s offset size) refl h refl) after (e ∙ put-front out _ (omega arith))
 
 -- ---- What a granted copy tells
 
 -- the image opens, and the element's bytes are as many as the call answers
 pub record Grants (s : List ℕ) (tag ref room n : ℕ) : Type 0 where
   pub sound : openOf s .number ≡ 0
-  pub answers : copyOf s tag ref room ≡ grant (n ∷ [])
+  pub answers : copyOf s tag ref room ≡ grant (n ∷ 0 ∷ [])
   pub holds : length (elementBytes s tag ref) ≡ n
   pub fits : n ≤ room
 
@@ -131,7 +158,7 @@ unfolding copyOf inPlace inBlocks
 granted-copy s tag ref room e = go (elementAt s (find s tag ref)) refl
   where
     sound : openOf s .number ≡ 0
-    sound = opened-passed 1 s (copyFound s room (elementAt s (find s tag ref))) e
+    sound = opened-passed 2 s (copyFound s room (elementAt s (find s tag ref))) e
 
     found : (p : ℕ) (x : Stored) → copyOf s tag ref room ≡ copyAt room p x → (x .chain-fault ≡ 0 → length (elementBytes s tag ref) ≡ x .size) → (n : ℕ) × Grants s tag ref room n
     found p x is long =

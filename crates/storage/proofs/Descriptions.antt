@@ -1,5 +1,6 @@
 -- The rules of a record of linked blocks, from the tests of the code. Assumes nothing.
 use Prim.Native.Nat.{ℕ, _<_, _≤_}
+use native.Mathlib.Omega.{arith}
 use mathlib.Core.Path.{_≡_, ap, _∙_}
 use mathlib.Core.List.{List}
 use mathlib.Core.Bool.{not}
@@ -8,7 +9,7 @@ use lib.ListN.{length}
 use borrow.Author.Tests.{le-leb, lt-leb, eq-eqb, ne-eqb}
 use Rattle.wire.specs.Numbers.{be}
 use Rattle.answer.specs.Search.{must}
-use Rattle.answer.proofs.Search.{must-holds, must-fails}
+use Rattle.answer.proofs.Search.{must-holds, must-fails, must-either}
 use Rattle.storage.specs.Descriptions.{descriptionOf, recordFault}
 
 module _ (r : List ℕ) where
@@ -47,3 +48,14 @@ module _ (r : List ℕ) where
             pub fault-none : (descriptionOf r .entries ≡ 0 → ⊥) → recordFault r ≡ 0
             fault-none h =
                 past-size 0 (must-holds _ _ _ (ap not (ne-eqb _ _ first)) ∙ (must-holds _ _ _ (ap not (ne-eqb _ _ block)) ∙ must-holds _ _ _ (ap not (ne-eqb _ _ h))))
+
+-- it has no other numbers than 12 and 13
+pub record-early : (r : List ℕ) → recordFault r < 23
+unfolding recordFault
+record-early r =
+    must-either (λ n. n < 23) _ 13 _ (omega arith)
+    (must-either (λ n. n < 23) _ 12 _ (omega arith)
+    (must-either (λ n. n < 23) _ 13 _ (omega arith)
+    (must-either (λ n. n < 23) _ 13 _ (omega arith)
+    (must-either (λ n. n < 23) _ 13 _ (omega arith)
+    (must-either (λ n. n < 23) _ 13 _ (omega arith) (omega arith))))))

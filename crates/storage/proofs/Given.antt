@@ -11,12 +11,12 @@ use lib.Dec.{eqb}
 use lib.ListN.{length}
 use borrow.Author.Tests.{leb-true, eqb-false, le-leb, ne-eqb, not-true}
 use Rattle.answer.specs.Search.{In, Pairwise}
-use Rattle.answer.proofs.Tests.{zero?, same?, in-left, in-right, in-snoc}
+use Rattle.answer.proofs.Tests.{same?, in-left, in-right, in-snoc}
 use Rattle.answer.proofs.Search.{passed, pass, any-none}
-use Rattle.storage.specs.Tables.{linkedAt, isThere, linkedBytes, nextTable, blockRef, tableFault, linkedFault, blockBytes}
+use Rattle.storage.specs.Tables.{linkedAt, isThere, linkedBytes, nextTable, blockRef, linkFault, tableFault, linkedBlockFault, blockBytes}
 use Rattle.storage.specs.Elements.{bytesAt}
 use Rattle.storage.specs.Walks.{share, blocksFrom, tablesFrom, chainOf}
-use Rattle.storage.specs.Given.{entriesOf, blockRefs, given, leftAfter, Sound, Chained, Complete}
+use Rattle.storage.specs.Given.{entriesOf, blockRefs, given, leftAfter, Holds, Sound, Chained, Complete}
 use Rattle.storage.specs.declared.element.Located.{Located}
 use Rattle.storage.specs.declared.element.Located.the-variants.{Plain, Refused}
 use Rattle.storage.specs.declared.linked.Description.{Description}
@@ -77,6 +77,15 @@ sound-append s d index left (x ∷ xs) ys =
 
 -- ---- The blocks of a table
 
+-- what a block without fault keeps
+block-kept : (s : List ℕ) (b count : ℕ) → linkedBlockFault s b count ≡ 0 → Holds s b count
+unfolding linkedBlockFault linkFault
+block-kept s b count e = let h = passed _ _ _ e in (h .0, leb-true _ _ (passed _ _ _ (h .1) .0))
+
+kept-block : (s : List ℕ) (b count : ℕ) → Holds s b count → linkedBlockFault s b count ≡ 0
+unfolding linkedBlockFault linkFault
+kept-block s b count h = pass _ _ _ (h .0) (pass _ _ _ (le-leb count (length (linkedBytes s b)) (h .1)) refl)
+
 length-entries : (t : List ℕ) (k entry : ℕ) → length (entriesOf t k entry) ≡ k
 unfolding entriesOf
 length-entries t zero entry = refl
@@ -97,13 +106,13 @@ blocks-given s d t (suc k) entry index left e =
             ap (λ x. x .left) w ∙ z ∙ sym (ap (λ n. leftAfter d index n bs) z ∙ left-none d index bs),
             sound-none s d index left bs z,
           )
-      | inr z ↦ elim (zero? (linkedFault s (blockRef t entry) (share d index left))) [
-        | inr m ↦ absurd (suc-ne-zero (m .0) (ap (λ x. x .fault) (sym (blocks-fault s d t entry index left k z (m .0) (m .1))) ∙ e))
+      | inr z ↦ elim (same? (linkedBlockFault s (blockRef t entry) (share d index left)) 0) [
+        | inr f ↦ absurd (f (ap (λ x. x .fault) (sym (blocks-fault s d t entry index left k z f)) ∙ e))
         | inl q ↦
             let n = share d index left in
             let w = blocks-next s d t entry index left k z q in
             let h = blocks-given s d t k (entry + 1) (index + 1) (left - n) (ap (λ x. x .fault) (sym w) ∙ e) in
-            (ap (λ x. x .bytes) w ∙ ap (λ l. blockBytes s (blockRef t entry) n ++ l) (h .0), ap (λ x. x .left) w ∙ h .1, ((λ l. q), h .2))
+            (ap (λ x. x .bytes) w ∙ ap (λ l. blockBytes s (blockRef t entry) n ++ l) (h .0), ap (λ x. x .left) w ∙ h .1, ((λ l. block-kept s (blockRef t entry) n q), h .2))
       ]
     ]
 
@@ -115,7 +124,7 @@ sound-blocks s d t (suc k) entry index left h =
     elim (same? left 0) [
       | inl z ↦ ap (λ x. x .fault) (blocks-full s d t entry index left (suc k) z)
       | inr z ↦
-          ap (λ x. x .fault) (blocks-next s d t entry index left k z (h .0 (omega arith)))
+          ap (λ x. x .fault) (blocks-next s d t entry index left k z (kept-block s (blockRef t entry) (share d index left) (h .0 (omega arith))))
           ∙ sound-blocks s d t k (entry + 1) (index + 1) (left - share d index left) (h .1)
     ]
 
@@ -124,7 +133,7 @@ sound-blocks s d t (suc k) entry index left h =
 -- what a table without fault keeps
 table-kept : (s : List ℕ) (d : Description) (before : List ℕ) (ref : ℕ) → tableFault s d before ref ≡ 0
     → ((t : ℕ) → In t before → ref ≡ t → ⊥) × (2 + 2 * d .entries ≤ length (linkedBytes s ref))
-unfolding tableFault
+unfolding tableFault linkFault
 table-kept s d before ref e =
     let h = passed _ _ _ e in
     let g = passed _ _ _ (passed _ _ _ (h .1) .1) in
@@ -132,7 +141,7 @@ table-kept s d before ref e =
 
 kept-table : (s : List ℕ) (d : Description) (before : List ℕ) (ref : ℕ) → ((t : ℕ) → In t before → ref ≡ t → ⊥)
     → 2 + 2 * d .entries ≤ length (linkedBytes s ref) → tableFault s d before ref ≡ 0
-unfolding tableFault linkedBytes
+unfolding tableFault linkFault linkedBytes
 kept-table s d before ref fresh whole =
     pass _ _ _ (ap not (any-none (eqb ref) before .1 (λ t i. ne-eqb ref t (fresh t i))))
     (pass _ _ _ (there (linkedAt s ref) whole) (pass _ _ _ (le-leb (2 + 2 * d .entries) (length (linkedBytes s ref)) whole) refl))
@@ -176,13 +185,13 @@ unfolding given leftAfter blockRefs
 tables-given s d zero before ref index left e =
     elim (same? left 0) [
       | inl z ↦ ([], no-table s d 0 before ref index left z)
-      | inr z ↦ absurd (suc-ne-zero 12 (ap (λ x. x .fault) (sym (tables-many s d before ref index left z)) ∙ e))
+      | inr z ↦ absurd (suc-ne-zero 26 (ap (λ x. x .fault) (sym (tables-many s d before ref index left z)) ∙ e))
     ]
 tables-given s d (suc k) before ref index left e =
     elim (same? left 0) [
       | inl z ↦ ([], no-table s d (suc k) before ref index left z)
-      | inr z ↦ elim (zero? (tableFault s d before ref)) [
-        | inr m ↦ absurd (suc-ne-zero (m .0) (ap (λ x. x .fault) (sym (tables-fault s d before ref index left z k (m .0) (m .1))) ∙ e))
+      | inr z ↦ elim (same? (tableFault s d before ref) 0) [
+        | inr f ↦ absurd (f (ap (λ x. x .fault) (sym (tables-fault s d before ref index left z k f)) ∙ e))
         | inl q ↦
             let t = linkedBytes s ref in
             let es = entriesOf t (d .entries) 0 in

@@ -7,6 +7,9 @@ pub mod Tables
 pub mod Walks
 pub mod Steps
 pub mod Given
+pub mod Indices
+pub mod Links
 pub mod Copies
+pub mod CopyRules
 pub mod Claims
 pub mod Cases

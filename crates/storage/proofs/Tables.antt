@@ -1,9 +1,9 @@
 -- The table or block with a reference, and the rules of each from the tests of the code. Assumes nothing.
 use Prim.Native.Nat.{ℕ, _+_, _*_, _<_, _≤_}
 use native.Mathlib.Omega.{arith}
-use mathlib.Core.Path.{_≡_, sym, ap, _∙_}
+use mathlib.Core.Path.{_≡_, refl, sym, ap, _∙_}
 use mathlib.Core.Logic.{inl, inr}
-use mathlib.Core.List.{List}
+use mathlib.Core.List.{List, []}
 use mathlib.Core.Bool.{true, false, not}
 use lib.Dec.{eqb}
 use lib.ListN.{length, take, drop}
@@ -12,19 +12,21 @@ use borrow.Author.Tests.{le-leb, lt-leb, eq-eqb, ne-eqb}
 use Rattle.answer.specs.Search.{any}
 use Rattle.answer.specs.declared.Refusal.{Refusal}
 use Rattle.answer.proofs.Tests.{same?}
-use Rattle.answer.proofs.Search.{must-holds, must-fails}
-use Rattle.wire.specs.Numbers.{be, part}
+use Rattle.answer.proofs.Search.{must-holds, must-fails, pass}
+use Rattle.wire.specs.Numbers.{part}
 use Rattle.directory.specs.Opening.{openOf}
 use Rattle.directory.specs.Lookup.{find, findIn}
 use Rattle.directory.specs.Steps.Opens.{Opens}
 use Rattle.directory.proofs.Opens.{opened-find}
 use Rattle.storage.specs.Limits.{linked-tag}
 use Rattle.storage.specs.Elements.{plainOnly, locatedAt, bytesAt}
-use Rattle.storage.specs.Tables.{linkedAt, isThere, linkedBytes, nextTable, tableFault, linkedFault, blockBytes}
+use Rattle.storage.specs.Tables.{nextOf, tablesAfter, linkedAt, isThere, linkedBytes, nextTable, linkFault, tableFault, blockBytes}
+use Rattle.storage.specs.Steps.{There, Reaches, nextFault}
 use Rattle.storage.specs.declared.element.Element.the-variants.{Absent}
 use Rattle.storage.specs.declared.element.Located.{Located}
 use Rattle.storage.specs.declared.element.Located.the-variants.{Plain, Refused}
 use Rattle.storage.specs.declared.linked.Description.{Description}
+use Rattle.storage.specs.declared.linked.Link.{Link}
 use Rattle.storage.proofs.Elements.{found-plain, located-element}
 
 -- ---- The table or block with a reference
@@ -33,7 +35,7 @@ pub linked-zero : (s : List ℕ) (ref : ℕ) → ref ≡ 0 → linkedAt s ref �
 unfolding linkedAt
 linked-zero s ref e = simp (linkedAt, eq-eqb _ _ e)
 
-linked-find : (s : List ℕ) (ref : ℕ) → (ref ≡ 0 → ⊥) → linkedAt s ref ≡ locatedAt s (find s linked-tag ref)
+pub linked-find : (s : List ℕ) (ref : ℕ) → (ref ≡ 0 → ⊥) → linkedAt s ref ≡ locatedAt s (find s linked-tag ref)
 unfolding linkedAt
 linked-find s ref z = simp (linkedAt, ne-eqb _ _ z)
 
@@ -42,12 +44,6 @@ pub linked-found : (s : List ℕ) (blocks ref : ℕ) → Opens s blocks → (ref
 linked-found s blocks ref o z r is = is ∙ ap (locatedAt s) (opened-find s blocks linked-tag ref o) ∙ sym (linked-find s ref z)
 
 -- what is known of one that is there
-pub record There (s : List ℕ) (ref offset size : ℕ) : Type 0 where
-  pub there : isThere (linkedAt s ref) ≡ true
-  pub inside : offset + size ≤ length s
-  pub bytes : linkedBytes s ref ≡ part s offset size
-  pub holds : length (linkedBytes s ref) ≡ size
-
 pub linked-there : (s : List ℕ) (ref p offset size : ℕ) → openOf s .number ≡ 0 → (r : Located) → r ≡ linkedAt s ref → r ≡ Plain p offset size → There s ref offset size
 unfolding linkedBytes
 linked-there s ref p offset size sound r is e = go (sym is ∙ e)
@@ -65,52 +61,77 @@ linked-there s ref p offset size sound r is e = go (sym is ∙ e)
 pub linked-nothing : (s : List ℕ) (ref : ℕ) (r : Located) → r ≡ linkedAt s ref → (x : Refusal) → r ≡ Refused x → isThere (linkedAt s ref) ≡ false
 linked-nothing s ref r is x e = ap isThere (sym is ∙ e)
 
--- a table that is not there names none
-pub names-none : (s : List ℕ) (ref : ℕ) (r : Located) → r ≡ linkedAt s ref → (x : Refusal) → r ≡ Refused x → nextTable (linkedBytes s ref) ≡ 0
-unfolding linkedBytes be
-names-none s ref r is x e = ap (λ l. nextTable (bytesAt s l)) (sym is ∙ e)
+-- ---- The rules of a table or a block
 
--- ---- The rules of a block
-
-module _ (s : List ℕ) (ref count : ℕ) where
-  pub block-absent : isThere (linkedAt s ref) ≡ false → linkedFault s ref count ≡ 13
-  unfolding linkedFault
-  block-absent h = must-fails _ _ _ h
+module _ (s : List ℕ) (ref count absent short : ℕ) where
+  pub link-absent : isThere (linkedAt s ref) ≡ false → linkFault s ref count absent short ≡ absent
+  unfolding linkFault
+  link-absent h = must-fails _ _ _ h
 
   module _ (offset size : ℕ) (t : There s ref offset size) where
-    pub block-short : size < count → linkedFault s ref count ≡ 13
-    unfolding linkedFault
-    block-short h = must-holds _ _ _ (t .there) ∙ must-fails _ _ _ (lt-leb count (length (linkedBytes s ref)) (omega (arith, t .holds)))
+    pub link-short : size < count → linkFault s ref count absent short ≡ short
+    unfolding linkFault
+    link-short h = must-holds _ _ _ (t .there) ∙ must-fails _ _ _ (lt-leb count (length (linkedBytes s ref)) (omega (arith, t .holds)))
 
-    pub block-none : count ≤ size → linkedFault s ref count ≡ 0
-    unfolding linkedFault
-    block-none h = must-holds _ _ _ (t .there) ∙ must-holds _ _ _ (le-leb count (length (linkedBytes s ref)) (omega (arith, t .holds)))
+    pub link-none : count ≤ size → linkFault s ref count absent short ≡ 0
+    unfolding linkFault
+    link-none h = must-holds _ _ _ (t .there) ∙ must-holds _ _ _ (le-leb count (length (linkedBytes s ref)) (omega (arith, t .holds)))
 
-    pub block-gives : count ≤ size → blockBytes s ref count ≡ part s offset count
-    unfolding blockBytes part
-    block-gives h = ap (take count) (t .bytes) ∙ take-take count size (drop offset s) h
-
--- ---- The rules of a table
+pub block-gives : (s : List ℕ) (ref count offset size : ℕ) → There s ref offset size → count ≤ size → blockBytes s ref count ≡ part s offset count
+unfolding blockBytes part
+block-gives s ref count offset size t h = ap (take count) (t .bytes) ∙ take-take count size (drop offset s) h
 
 module _ (s : List ℕ) (d : Description) (before : List ℕ) (ref : ℕ) where
-  pub table-twice : any (eqb ref) before ≡ true → tableFault s d before ref ≡ 13
+  pub table-twice : any (eqb ref) before ≡ true → tableFault s d before ref ≡ 27
   unfolding tableFault
   table-twice h = must-fails _ _ _ (ap not h)
 
-  module _ (fresh : any (eqb ref) before ≡ false) where
-    pub table-absent : isThere (linkedAt s ref) ≡ false → tableFault s d before ref ≡ 13
-    unfolding tableFault
-    table-absent h = must-holds _ _ _ (ap not fresh) ∙ must-fails _ _ _ h
+  pub table-fresh : any (eqb ref) before ≡ false → tableFault s d before ref ≡ linkFault s ref (2 + 2 * d .entries) 23 24
+  unfolding tableFault
+  table-fresh h = must-holds _ _ _ (ap not h)
 
-    module _ (offset size : ℕ) (t : There s ref offset size) where
-      pub table-short : size < 2 + 2 * d .entries → tableFault s d before ref ≡ 13
-      unfolding tableFault
-      table-short h =
-          must-holds _ _ _ (ap not fresh)
-          ∙ (must-holds _ _ _ (t .there) ∙ must-fails _ _ _ (lt-leb (2 + 2 * d .entries) (length (linkedBytes s ref)) (omega (arith, t .holds))))
+-- ---- One that is looked up
 
-      pub table-none : 2 + 2 * d .entries ≤ size → tableFault s d before ref ≡ 0
-      unfolding tableFault
-      table-none h =
-          must-holds _ _ _ (ap not fresh)
-          ∙ (must-holds _ _ _ (t .there) ∙ must-holds _ _ _ (le-leb (2 + 2 * d .entries) (length (linkedBytes s ref)) (omega (arith, t .holds))))
+module _ (s : List ℕ) (ref fault needed : ℕ) where
+  pub reaches-broken : (r : Link) (n : ℕ) → r ≡ record { fault = n; offset = 0; length = 0 } → fault ≡ n → (n ≡ 0 → ⊥) → Reaches s ref fault needed r
+  reaches-broken r n is e z =
+      let f : r .fault ≡ n = ap (λ x. x .fault) is in
+      record { fault-is = f ∙ sym e; there = λ q. absurd (z (sym f ∙ q)); enough = λ q. absurd (z (sym f ∙ q)); nowhere = λ q. ap (λ x. x .length) is }
+
+  pub reaches-there : (offset size : ℕ) → There s ref offset size → needed ≤ size → fault ≡ 0 → Reaches s ref fault needed (record { fault = 0; offset = offset; length = size })
+  reaches-there offset size t h e = record { fault-is = sym e; there = λ q. t; enough = λ q. h; nowhere = λ q. absurd (q refl) }
+
+-- one that is not there has no bytes, and is the only one of which none are needed that breaks a rule
+gone-bytes : (s : List ℕ) (ref absent short : ℕ) → (linkFault s ref 0 absent short ≡ 0 → ⊥) → linkedBytes s ref ≡ []
+unfolding linkedBytes linkFault
+gone-bytes s ref absent short z = go (linkedAt s ref) refl
+  where
+    go : (x : Located) → linkedAt s ref ≡ x → bytesAt s (linkedAt s ref) ≡ []
+    go (Refused r) e = ap (bytesAt s) e
+    go (Plain p offset size) e = absurd (z (pass _ _ _ (ap isThere e) (pass _ _ _ (le-leb 0 (length (linkedBytes s ref)) (omega arith)) refl)))
+
+-- the table that it names next, where it is one
+pub reaches-next : (s : List ℕ) (ref absent short : ℕ) (r : Link) → Reaches s ref (linkFault s ref 0 absent short) 0 r → nextTable (part s (r .offset) (r .length)) ≡ nextOf s ref
+unfolding part
+reaches-next s ref absent short r h =
+    elim (same? (r .fault) 0) [
+      | inl e ↦ ap nextTable (sym (h .there e .bytes))
+      | inr z ↦
+          let none : part s (r .offset) (r .length) ≡ [] = ap (part s (r .offset)) (h .nowhere z) in
+          ap nextTable (none ∙ sym (gone-bytes s ref absent short (λ q. z (h .fault-is ∙ q))))
+    ]
+
+-- a table after so many others: one too many, one of those, or a new one
+module _ (s : List ℕ) (d : Description) (count ref : ℕ) where
+  pub next-many : count ≡ 256 → nextFault s d count ref ≡ 27
+  next-many e = must-fails _ _ _ (ap not (eq-eqb _ _ e))
+
+  module _ (few : count ≡ 256 → ⊥) where
+    pub next-few : nextFault s d count ref ≡ tableFault s d (tablesAfter s count (d .table)) ref
+    next-few = must-holds _ _ _ (ap not (ne-eqb _ _ few))
+
+    pub next-twice : any (eqb ref) (tablesAfter s count (d .table)) ≡ true → nextFault s d count ref ≡ 27
+    next-twice h = next-few ∙ table-twice s d _ ref h
+
+    pub next-fresh : any (eqb ref) (tablesAfter s count (d .table)) ≡ false → nextFault s d count ref ≡ linkFault s ref (2 + 2 * d .entries) 23 24
+    next-fresh h = next-few ∙ table-fresh s d _ ref h

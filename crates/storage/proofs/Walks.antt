@@ -5,14 +5,13 @@ use native.Mathlib.Omega.{arith}
 use mathlib.Core.Path.{_≡_, refl, sym, ap, _∙_}
 use mathlib.Core.Logic.{inl, inr}
 use mathlib.Core.List.{List, [], _∷_, _++_}
-use lib.Dec.{eqb}
 use lib.ListN.{length, length-append}
 use lib.Seq.{length-take-le}
-use borrow.Author.Tests.{leb-true, eqb-true, eq-eqb, ne-eqb}
+use borrow.Author.Tests.{leb-true, eq-eqb, ne-eqb}
 use Rattle.answer.proofs.Tests.{zero?, same?}
-use Rattle.answer.proofs.Search.{must-holds, must-fails, passed}
-use Rattle.storage.specs.Tables.{linkedBytes, nextTable, blockRef, tableFault, linkedFault, blockBytes}
-use Rattle.storage.specs.Walks.{share, Walk, stop, joined, andThen, blocksFrom, tablesFrom, chainOf}
+use Rattle.answer.proofs.Search.{passed}
+use Rattle.storage.specs.Tables.{linkedBytes, nextTable, blockRef, linkFault, tableFault, linkedBlockFault, blockBytes}
+use Rattle.storage.specs.Walks.{share, Walk, ends, breaks, joined, andThen, blocksFrom, tablesFrom, chainOf}
 use Rattle.storage.specs.declared.linked.Description.{Description}
 
 -- ---- One block further
@@ -32,29 +31,34 @@ share-less d zero left = omega arith
 share-less d (suc index) left = omega arith
 
 module _ (s : List ℕ) (d : Description) (t : List ℕ) (entry index left : ℕ) where
-  pub blocks-none : blocksFrom s d t 0 entry index left ≡ stop 0 left
+  pub blocks-none : blocksFrom s d t 0 entry index left ≡ ends left
   unfolding blocksFrom
   blocks-none = refl
 
-  pub blocks-full : (k : ℕ) → left ≡ 0 → blocksFrom s d t k entry index left ≡ stop 0 left
+  pub blocks-full : (k : ℕ) → left ≡ 0 → blocksFrom s d t k entry index left ≡ ends left
   unfolding blocksFrom
   blocks-full zero e = refl
   blocks-full (suc k) e = simp (blocksFrom, eq-eqb left 0 e)
 
   module _ (k : ℕ) (more : left ≡ 0 → ⊥) where
-    pub blocks-fault : (f : ℕ) → linkedFault s (blockRef t entry) (share d index left) ≡ suc f → blocksFrom s d t (suc k) entry index left ≡ stop (suc f) left
+    pub blocks-fault : (linkedBlockFault s (blockRef t entry) (share d index left) ≡ 0 → ⊥)
+        → blocksFrom s d t (suc k) entry index left ≡ breaks (linkedBlockFault s (blockRef t entry) (share d index left)) index left
     unfolding blocksFrom
-    blocks-fault f h = simp (blocksFrom, ne-eqb left 0 more, h)
+    blocks-fault z =
+        elim (zero? (linkedBlockFault s (blockRef t entry) (share d index left))) [
+          | inl e ↦ absurd (z e)
+          | inr m ↦ simp (blocksFrom, ne-eqb left 0 more, m .1)
+        ]
 
-    pub blocks-next : linkedFault s (blockRef t entry) (share d index left) ≡ 0
+    pub blocks-next : linkedBlockFault s (blockRef t entry) (share d index left) ≡ 0
         → blocksFrom s d t (suc k) entry index left
         ≡ joined (blockBytes s (blockRef t entry) (share d index left)) (blocksFrom s d t k (entry + 1) (index + 1) (left - share d index left))
     unfolding blocksFrom
     blocks-next h = simp (blocksFrom, ne-eqb left 0 more, h)
 
 -- a block without fault has the bytes that are taken
-block-passed : (s : List ℕ) (ref count : ℕ) → linkedFault s ref count ≡ 0 → length (blockBytes s ref count) ≡ count
-unfolding linkedFault blockBytes
+block-passed : (s : List ℕ) (ref count : ℕ) → linkedBlockFault s ref count ≡ 0 → length (blockBytes s ref count) ≡ count
+unfolding linkedBlockFault linkFault blockBytes
 block-passed s ref count e =
     let h = passed _ _ _ (passed _ _ _ e .1) in
     length-take-le count (linkedBytes s ref) (leb-true _ _ (h .0))
@@ -66,8 +70,8 @@ blocks-total s d t zero entry index left = rw (blocks-none s d t entry index lef
 blocks-total s d t (suc k) entry index left =
     elim (same? left 0) [
       | inl z ↦ rw (blocks-full s d t entry index left (suc k) z) (omega arith)
-      | inr z ↦ elim (zero? (linkedFault s (blockRef t entry) (share d index left))) [
-        | inr m ↦ rw (blocks-fault s d t entry index left k z (m .0) (m .1)) (omega arith)
+      | inr z ↦ elim (same? (linkedBlockFault s (blockRef t entry) (share d index left)) 0) [
+        | inr f ↦ rw (blocks-fault s d t entry index left k z f) (omega arith)
         | inl e ↦
             let n = share d index left in
             let bs = blockBytes s (blockRef t entry) n in
@@ -90,20 +94,20 @@ pub then-goes : (v w : Walk) → v .fault ≡ 0 → andThen v w ≡ joined (v .b
 then-goes v w e = rw (e, andThen)
 
 module _ (s : List ℕ) (d : Description) (before : List ℕ) (ref index left : ℕ) where
-  pub tables-full : (k : ℕ) → left ≡ 0 → tablesFrom s d k before ref index left ≡ stop 0 left
+  pub tables-full : (k : ℕ) → left ≡ 0 → tablesFrom s d k before ref index left ≡ ends left
   unfolding tablesFrom
-  tables-full zero e = ap (λ n. stop n left) (must-holds (eqb left 0) 13 0 (eq-eqb left 0 e))
+  tables-full zero e = simp (tablesFrom, eq-eqb left 0 e)
   tables-full (suc k) e = simp (tablesFrom, eq-eqb left 0 e)
 
   module _ (more : left ≡ 0 → ⊥) where
-    pub tables-many : tablesFrom s d 0 before ref index left ≡ stop 13 left
+    pub tables-many : tablesFrom s d 0 before ref index left ≡ breaks 27 (length before) left
     unfolding tablesFrom
-    tables-many = ap (λ n. stop n left) (must-fails (eqb left 0) 13 0 (ne-eqb left 0 more))
+    tables-many = simp (tablesFrom, ne-eqb left 0 more)
 
     module _ (k : ℕ) where
-      pub tables-fault : (f : ℕ) → tableFault s d before ref ≡ suc f → tablesFrom s d (suc k) before ref index left ≡ stop (suc f) left
+      pub tables-fault : (tableFault s d before ref ≡ 0 → ⊥) → tablesFrom s d (suc k) before ref index left ≡ breaks (tableFault s d before ref) (length before) left
       unfolding tablesFrom
-      tables-fault f h = simp (tablesFrom, ne-eqb left 0 more, h)
+      tables-fault z = elim (zero? (tableFault s d before ref)) [ inl e ↦ absurd (z e) | inr m ↦ simp (tablesFrom, ne-eqb left 0 more, m .1) ]
 
       pub tables-next : tableFault s d before ref ≡ 0
           → tablesFrom s d (suc k) before ref index left
@@ -115,13 +119,16 @@ module _ (s : List ℕ) (d : Description) (before : List ℕ) (ref index left : 
 -- what was given and what is left make up what was to be given
 tables-total : (s : List ℕ) (d : Description) (k : ℕ) (before : List ℕ) (ref index left : ℕ)
     → length (tablesFrom s d k before ref index left .bytes) + tablesFrom s d k before ref index left .left ≡ left
-unfolding tablesFrom
-tables-total s d zero before ref index left = omega arith
+tables-total s d zero before ref index left =
+    elim (same? left 0) [
+      | inl z ↦ rw (tables-full s d before ref index left 0 z) (omega arith)
+      | inr z ↦ rw (tables-many s d before ref index left z) (omega arith)
+    ]
 tables-total s d (suc k) before ref index left =
     elim (same? left 0) [
       | inl z ↦ rw (tables-full s d before ref index left (suc k) z) (omega arith)
-      | inr z ↦ elim (zero? (tableFault s d before ref)) [
-        | inr m ↦ rw (tables-fault s d before ref index left z k (m .0) (m .1)) (omega arith)
+      | inr z ↦ elim (same? (tableFault s d before ref) 0) [
+        | inr f ↦ rw (tables-fault s d before ref index left z k f) (omega arith)
         | inl e ↦
             let v = blocksFrom s d (linkedBytes s ref) (d .entries) 0 index left in
             let w = tablesFrom s d k (before ++ (ref ∷ [])) (nextTable (linkedBytes s ref)) (index + d .entries) (v .left) in
@@ -138,13 +145,16 @@ tables-total s d (suc k) before ref index left =
 -- a walk without fault leaves nothing
 pub tables-finish : (s : List ℕ) (d : Description) (k : ℕ) (before : List ℕ) (ref index left : ℕ)
     → tablesFrom s d k before ref index left .fault ≡ 0 → tablesFrom s d k before ref index left .left ≡ 0
-unfolding tablesFrom
-tables-finish s d zero before ref index left e = eqb-true left 0 (passed _ _ _ e .0)
+tables-finish s d zero before ref index left e =
+    elim (same? left 0) [
+      | inl z ↦ ap (λ x. x .left) (tables-full s d before ref index left 0 z) ∙ z
+      | inr z ↦ absurd (suc-ne-zero 26 (ap (λ x. x .fault) (sym (tables-many s d before ref index left z)) ∙ e))
+    ]
 tables-finish s d (suc k) before ref index left e =
     elim (same? left 0) [
       | inl z ↦ ap (λ x. x .left) (tables-full s d before ref index left (suc k) z) ∙ z
-      | inr z ↦ elim (zero? (tableFault s d before ref)) [
-        | inr m ↦ absurd (suc-ne-zero (m .0) (ap (λ x. x .fault) (sym (tables-fault s d before ref index left z k (m .0) (m .1))) ∙ e))
+      | inr z ↦ elim (same? (tableFault s d before ref) 0) [
+        | inr f ↦ absurd (f (ap (λ x. x .fault) (sym (tables-fault s d before ref index left z k f)) ∙ e))
         | inl q ↦
             let v = blocksFrom s d (linkedBytes s ref) (d .entries) 0 index left in
             let w = tablesFrom s d k (before ++ (ref ∷ [])) (nextTable (linkedBytes s ref)) (index + d .entries) (v .left) in

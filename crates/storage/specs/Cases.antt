@@ -1,4 +1,4 @@
--- Worked cases of linked blocks as one table: what the definitions compute beside what document 01's rules give. Assumes nothing.
+-- Worked cases of linked blocks as one table: what the definitions compute beside what the rules give. Assumes nothing.
 use Prim.Native.Nat.{ℕ}
 use mathlib.Core.List.{List, [], _∷_}
 use Rattle.wire.specs.Numbers.{bytes, put}
@@ -32,9 +32,9 @@ pub record WorkedRow : Type 0 where
   pub computed : List ℕ
   pub expected : List ℕ
 
--- the first rule that its record breaks, its length, the first fault of its chain, and the bytes before that
+-- the first rule that its record breaks, its length, the first fault of its chain and its index, and the bytes before that
 unfoldable pub storedNumbers : Stored → List ℕ
-storedNumbers x = x .record-fault ∷ x .size ∷ x .chain-fault ∷ x .bytes
+storedNumbers x = x .record-fault ∷ x .size ∷ x .chain-fault ∷ x .chain-index ∷ x .bytes
 
 -- the extended element of the slot at 10
 abbrev pub reading : List ℕ → List ℕ → WorkedRow
@@ -45,16 +45,20 @@ reading s expected = record { computed = storedNumbers (inBlocks s (contentAt s 
 unfoldable pub workedCases : List WorkedRow
 workedCases =
     -- the six bytes
-    reading L (0 ∷ 6 ∷ 0 ∷ 97 ∷ 98 ∷ 99 ∷ 100 ∷ 101 ∷ 102 ∷ [])
+    reading L (0 ∷ 6 ∷ 0 ∷ 0 ∷ 97 ∷ 98 ∷ 99 ∷ 100 ∷ 101 ∷ 102 ∷ [])
     -- length 4 and no second table: the second block gives one byte, and no more is judged
-    ∷ reading (put (put L 86 (bytes 4 4)) 104 (bytes 2 0)) (0 ∷ 4 ∷ 0 ∷ 97 ∷ 98 ∷ 99 ∷ 100 ∷ [])
+    ∷ reading (put (put L 86 (bytes 4 4)) 104 (bytes 2 0)) (0 ∷ 4 ∷ 0 ∷ 0 ∷ 97 ∷ 98 ∷ 99 ∷ 100 ∷ [])
     -- length 0 and no table at all
-    ∷ reading (put (put L 86 (bytes 4 0)) 102 (bytes 2 0)) (0 ∷ 0 ∷ 0 ∷ [])
-    -- no second table, the first one again, one that is an entry short
-    ∷ reading (put L 104 (bytes 2 0)) (0 ∷ 6 ∷ 13 ∷ 97 ∷ 98 ∷ 99 ∷ 100 ∷ 101 ∷ [])
-    ∷ reading (put L 104 (bytes 2 2)) (0 ∷ 6 ∷ 13 ∷ 97 ∷ 98 ∷ 99 ∷ 100 ∷ 101 ∷ [])
-    ∷ reading (put L 42 (bytes 4 4)) (0 ∷ 6 ∷ 13 ∷ 97 ∷ 98 ∷ 99 ∷ 100 ∷ 101 ∷ [])
-    -- a first block that is a byte short, a last block that is extended
-    ∷ reading (put L 54 (bytes 4 2)) (0 ∷ 6 ∷ 13 ∷ [])
-    ∷ reading (put L 70 (bytes 2 16404)) (0 ∷ 6 ∷ 13 ∷ 97 ∷ 98 ∷ 99 ∷ 100 ∷ 101 ∷ [])
+    ∷ reading (put (put L 86 (bytes 4 0)) 102 (bytes 2 0)) (0 ∷ 0 ∷ 0 ∷ 0 ∷ [])
+    -- table 1: reference 0, an extended one, an entry short, the first one again
+    ∷ reading (put L 104 (bytes 2 0)) (0 ∷ 6 ∷ 23 ∷ 1 ∷ 97 ∷ 98 ∷ 99 ∷ 100 ∷ 101 ∷ [])
+    ∷ reading (put L 34 (bytes 2 16404)) (0 ∷ 6 ∷ 23 ∷ 1 ∷ 97 ∷ 98 ∷ 99 ∷ 100 ∷ 101 ∷ [])
+    ∷ reading (put L 42 (bytes 4 4)) (0 ∷ 6 ∷ 24 ∷ 1 ∷ 97 ∷ 98 ∷ 99 ∷ 100 ∷ 101 ∷ [])
+    ∷ reading (put L 104 (bytes 2 2)) (0 ∷ 6 ∷ 27 ∷ 1 ∷ 97 ∷ 98 ∷ 99 ∷ 100 ∷ 101 ∷ [])
+    -- block 0 a byte short, block 1 of reference 0, block 2 extended: blocks are counted through the whole element
+    ∷ reading (put L 54 (bytes 4 2)) (0 ∷ 6 ∷ 26 ∷ 0 ∷ [])
+    ∷ reading (put L 108 (bytes 2 0)) (0 ∷ 6 ∷ 25 ∷ 1 ∷ 97 ∷ 98 ∷ 99 ∷ [])
+    ∷ reading (put L 70 (bytes 2 16404)) (0 ∷ 6 ∷ 25 ∷ 2 ∷ 97 ∷ 98 ∷ 99 ∷ 100 ∷ 101 ∷ [])
+    -- block 1 absent and table 1 too: what the walk meets first answers
+    ∷ reading (put (put L 104 (bytes 2 9)) 108 (bytes 2 9)) (0 ∷ 6 ∷ 25 ∷ 1 ∷ 97 ∷ 98 ∷ 99 ∷ [])
     ∷ []

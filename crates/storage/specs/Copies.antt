@@ -1,10 +1,12 @@
--- Copying an element's bytes to the front of a lent buffer, after document 01, "Reading elements". Assumes nothing.
+-- Copying an element's bytes to the front of a lent buffer, after document 01, "Reading elements", and request (i) of document 02.
+-- Assumes nothing.
 use Prim.Native.Nat.{ℕ}
 use mathlib.Core.List.{List, [], _∷_}
-use lib.ListN.{length}
+use mathlib.Core.Bool.{true, false}
+use lib.ListN.{length, getD}
 use lib.Dec.{leb}
-use Rattle.answer.specs.Refusals.{ABSENT}
-use Rattle.answer.specs.Answer.{Answer, grant, refuse, refusal, unless, inRoom}
+use Rattle.answer.specs.Refusals.{ABSENT, NO-TABLE}
+use Rattle.answer.specs.Answer.{Answer, grant, refuse, carrying, unless, unlessCarrying, inRoom}
 use Rattle.answer.specs.Lent.{laidOver}
 use Rattle.wire.specs.Numbers.{part}
 use Rattle.directory.specs.Slots.{contentAt}
@@ -18,21 +20,23 @@ use Rattle.storage.specs.declared.element.Element.the-variants.{Absent, 
 use Rattle.storage.specs.declared.copy.Copied.{Copied}
 use Rattle.storage.specs.declared.copy.Copied.the-variants as copied
 
--- a copy answers the number of bytes
+-- a copy answers the number of bytes, and a refusal carries the index of the table or block that is broken
 abbrev pub copiedNumbers : Copied → Answer
-copiedNumbers (copied.Bytes n) = grant (n ∷ [])
-copiedNumbers (copied.Refused r) = refusal 1 r
+copiedNumbers (copied.Bytes n) = grant (n ∷ 0 ∷ [])
+copiedNumbers (copied.Refused r) = carrying 1 r
 
--- an element by its storage: the first rule that its record breaks, how many bytes it has, the first fault of its chain, and its bytes
+-- an element by its storage: the first rule that its record breaks, how many bytes it has, the first fault of its chain and the index of the table
+-- or block that has it, and its bytes
 pub record Stored : Type 0 where
   pub record-fault : ℕ
   pub size : ℕ
   pub chain-fault : ℕ
+  pub chain-index : ℕ
   pub bytes : List ℕ
 
 -- in plain storage
 unfoldable pub inPlace : List ℕ → ℕ → ℕ → Stored
-inPlace s offset size = record { record-fault = 0; size = size; chain-fault = 0; bytes = part s offset size }
+inPlace s offset size = record { record-fault = 0; size = size; chain-fault = 0; chain-index = 0; bytes = part s offset size }
 
 -- in linked blocks, by the bytes of its record
 unfoldable pub inBlocks : List ℕ → List ℕ → Stored
@@ -41,23 +45,24 @@ inBlocks s r =
       record-fault = recordFault r;
       size = descriptionOf r .length;
       chain-fault = chainOf s (descriptionOf r) .fault;
+      chain-index = chainOf s (descriptionOf r) .index;
       bytes = chainOf s (descriptionOf r) .bytes;
     }
 
 -- the rules of the record, then 14, then the chain
 unfoldable pub copyAt : ℕ → ℕ → Stored → Answer
 copyAt room p x =
-    unless 1 (x .record-fault) p
-    (inRoom 1 (leb (x .size) room) (unless 1 (x .chain-fault) p (grant (x .size ∷ []))))
+    unless 2 (x .record-fault) p
+    (inRoom 2 (leb (x .size) room) (unlessCarrying 1 (x .chain-fault) p (x .chain-index) (grant (x .size ∷ 0 ∷ []))))
 
 -- what the call goes on to at an element
 abbrev pub copyFound : List ℕ → ℕ → Element → Answer
-copyFound s room Absent = refuse 1 ABSENT 0
+copyFound s room Absent = refuse 2 ABSENT 0
 copyFound s room (Plain p offset size) = copyAt room p (inPlace s offset size)
 copyFound s room (Extended p) = copyAt room p (inBlocks s (contentAt s p))
 
 unfoldable pub copyOf : List ℕ → ℕ → ℕ → ℕ → Answer
-copyOf s tag ref room = opened 1 s (copyFound s room (elementAt s (find s tag ref)))
+copyOf s tag ref room = opened 2 s (copyFound s room (elementAt s (find s tag ref)))
 
 abbrev pub bytesFound : List ℕ → Element → List ℕ
 bytesFound s Absent = []
@@ -67,6 +72,10 @@ bytesFound s (Extended p) = inBlocks s (contentAt s p) .bytes
 -- the bytes of an element
 unfoldable pub elementBytes : List ℕ → ℕ → ℕ → List ℕ
 elementBytes s tag ref = bytesFound s (elementAt s (find s tag ref))
+
+-- the index that an answer has: of a table or a block, by the numbers of their faults, and else 0
+unfoldable pub linkIndex : Answer → ℕ
+linkIndex answer = elim (leb NO-TABLE (answer .number)) [ true ↦ getD (answer .values) 1 0 | false ↦ 0 ]
 
 -- the lent buffer after the call
 abbrev pub copyAfter : List ℕ → ℕ → ℕ → List ℕ → List ℕ

@@ -3,10 +3,11 @@
 use Prim.Native.Nat.{ℕ, zero, suc, _+_, _*_, _-_, _<_, _≤_}
 use mathlib.Core.Path.{_≡_}
 use mathlib.Core.List.{List, [], _∷_, _++_}
+use mathlib.Core.Bool.{true}
 use lib.ListN.{length}
 use Rattle.answer.specs.Search.{In, Pairwise}
 use Rattle.storage.specs.Limits.{most-tables}
-use Rattle.storage.specs.Tables.{linkedBytes, nextTable, blockRef, linkedFault, blockBytes}
+use Rattle.storage.specs.Tables.{linkedAt, isThere, linkedBytes, nextTable, blockRef, blockBytes}
 use Rattle.storage.specs.Walks.{share}
 use Rattle.storage.specs.declared.linked.Description.{Description}
 
@@ -30,10 +31,14 @@ unfoldable pub leftAfter : Description → ℕ → ℕ → List ℕ → ℕ
 leftAfter d index left [] = left
 leftAfter d index left (b ∷ bs) = leftAfter d (index + 1) (left - share d index left) bs
 
--- every block of which bytes are taken breaks no rule
+-- a block is there, and has the bytes that are taken of it
+abbrev pub Holds : List ℕ → ℕ → ℕ → Type 0
+Holds s b count = (isThere (linkedAt s b) ≡ true) × (count ≤ length (linkedBytes s b))
+
+-- and so is every block of which bytes are taken
 abbrev pub Sound : List ℕ → Description → ℕ → ℕ → List ℕ → Type 0
 Sound s d index left [] = Unit {0}
-Sound s d index left (b ∷ bs) = (0 < left → linkedFault s b (share d index left) ≡ 0) × Sound s d (index + 1) (left - share d index left) bs
+Sound s d index left (b ∷ bs) = (0 < left → Holds s b (share d index left)) × Sound s d (index + 1) (left - share d index left) bs
 
 -- the first of the tables has a reference, and each names the next
 abbrev pub Chained : List ℕ → ℕ → List ℕ → Type 0

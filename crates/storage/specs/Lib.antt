@@ -6,6 +6,7 @@ pub mod Descriptions
 pub mod Tables
 pub mod Walks
 pub mod Given
+pub mod Links
 pub mod Copies
 pub mod Steps
 pub mod Cases

@@ -1,16 +1,20 @@
 -- What the functions behind the calls take and leave. Assumes nothing.
-use Prim.Native.Nat.{ℕ, _*_, _%_, _<_, _≤_}
+use Prim.Native.Nat.{ℕ, _+_, _*_, _%_, _<_, _≤_}
 use mathlib.Core.Path.{_≡_}
 use mathlib.Core.List.{List}
-use mathlib.Core.Bool.{Bool, true, false}
+use mathlib.Core.Bool.{Bool, true, false, not}
 use lib.ListN.{length, getD}
-use Rattle.answer.specs.Links.{linkAfter, linksAfter}
-use Rattle.wire.specs.Numbers.{put}
+use lib.Dec.{eqb}
+use Rattle.answer.specs.Refusals.{TABLE-LOOP}
+use Rattle.answer.specs.Search.{must}
+use Rattle.wire.specs.Numbers.{part, put}
+use Rattle.storage.specs.Limits.{most-tables}
 use Rattle.storage.specs.Descriptions.{descriptionOf}
-use Rattle.storage.specs.Tables.{linkedBytes, nextTable}
+use Rattle.storage.specs.Tables.{linkedAt, isThere, linkedBytes, tableAfter, tablesAfter, tableFault}
 use Rattle.storage.specs.Walks.{Walk}
 use Rattle.storage.specs.declared.linked.Description.{Description}
-use Rattle.storage.specs.declared.linked.Taken.{Taken}
+use Rattle.storage.specs.declared.linked.Link.{Link}
+use Rattle.storage.specs.declared.linked.Walked.{Walked}
 
 -- the fields of a record are numbers of 32 bits
 pub record InRange (d : Description) : Type 0 where
@@ -21,16 +25,24 @@ pub record Describes (r : List ℕ) (d : Description) : Type 0 where
   pub is : d ≡ descriptionOf r
   pub small : InRange d
 
--- the reference that the table with a reference names next
-abbrev pub nextOf : List ℕ → ℕ → ℕ
-nextOf s ref = nextTable (linkedBytes s ref)
+-- a table or block that is there, and where its bytes stand
+pub record There (s : List ℕ) (ref offset size : ℕ) : Type 0 where
+  pub there : isThere (linkedAt s ref) ≡ true
+  pub inside : offset + size ≤ length s
+  pub bytes : linkedBytes s ref ≡ part s offset size
+  pub holds : length (linkedBytes s ref) ≡ size
 
--- the table k links after the one with a reference, and the first k tables from that one on
-abbrev pub tableAfter : List ℕ → ℕ → ℕ → ℕ
-tableAfter s k ref = linkAfter (nextOf s) k ref
+-- a table or block of which so many bytes are needed, looked up: the number of the first rule that it breaks, and where it stands where it breaks
+-- none
+pub record Reaches (s : List ℕ) (ref fault needed : ℕ) (r : Link) : Type 0 where
+  pub fault-is : r .fault ≡ fault
+  pub there : r .fault ≡ 0 → There s ref (r .offset) (r .length)
+  pub enough : r .fault ≡ 0 → needed ≤ r .length
+  pub nowhere : (r .fault ≡ 0 → ⊥) → r .length ≡ 0
 
-abbrev pub tablesAfter : List ℕ → ℕ → ℕ → List ℕ
-tablesAfter s k ref = linksAfter (nextOf s) k ref
+-- the number of the first rule that the table with a reference breaks, after so many others: also that it is one too many
+abbrev pub nextFault : List ℕ → Description → ℕ → ℕ → ℕ
+nextFault s d count ref = must (not (eqb count most-tables)) TABLE-LOOP (tableFault s d (tablesAfter s count (d .table)) ref)
 
 -- each of the first tables has set the mark of its reference
 pub record Marked (s : List ℕ) (first count : ℕ) (marks : List Bool) : Type 0 where
@@ -42,13 +54,9 @@ pub record Reached (d : Description) (index left : ℕ) : Type 0 where
   pub low : index ≤ 256 * 4294967296
   pub less : left ≤ d .length
 
--- a walk over the blocks of a table, from a place of the buffer on
-pub record Took (w : Walk) (at : ℕ) (out after : List ℕ) (r : Taken) : Type 0 where
+-- a walk whose bytes go to the buffer, from a place on
+pub record Took (w : Walk) (at : ℕ) (out after : List ℕ) (r : Walked) : Type 0 where
   pub left : r .left ≡ w .left
   pub fault : r .fault ≡ w .fault
+  pub index : r .index ≡ w .index
   pub leaves : after ≡ put out at (w .bytes)
-
--- a walk over the whole chain
-pub record Followed (w : Walk) (out after : List ℕ) (r : ℕ) : Type 0 where
-  pub fault : r ≡ w .fault
-  pub leaves : after ≡ put out 0 (w .bytes)

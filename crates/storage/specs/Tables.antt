@@ -1,12 +1,13 @@
--- The tables and blocks of an element in linked blocks, after document 01, "Reading elements". Assumes nothing.
+-- The tables and blocks of an element in linked blocks, after document 01, "Reading elements", and request (i) of document 02. Assumes nothing.
 use Prim.Native.Nat.{ℕ, _+_, _*_}
-use mathlib.Core.List.{List, []}
+use mathlib.Core.List.{List}
 use mathlib.Core.Bool.{Bool, true, false, not}
 use lib.ListN.{length, take}
 use lib.Dec.{leb, eqb}
-use Rattle.answer.specs.Refusals.{CHAIN}
+use Rattle.answer.specs.Refusals.{NO-TABLE, SHORT-TABLE, NO-BLOCK, SHORT-BLOCK, TABLE-LOOP}
 use Rattle.answer.specs.Search.{must, any}
-use Rattle.wire.specs.Numbers.{be, part}
+use Rattle.answer.specs.Links.{linkAfter, linksAfter}
+use Rattle.wire.specs.Numbers.{be}
 use Rattle.directory.specs.Lookup.{find}
 use Rattle.storage.specs.Limits.{linked-tag}
 use Rattle.storage.specs.Elements.{plainOnly, locatedAt, bytesAt}
@@ -34,18 +35,31 @@ nextTable t = be 2 t 0
 abbrev pub blockRef : List ℕ → ℕ → ℕ
 blockRef t entry = be 2 t (2 + 2 * entry)
 
--- the number of the first rule that a table breaks, after the tables before it; 0 where it breaks none: it comes twice, it is not there, it is not whole
-unfoldable pub tableFault : List ℕ → Description → List ℕ → ℕ → ℕ
-tableFault s d before ref =
-    must (not (any (eqb ref) before)) CHAIN
-    (must (isThere (linkedAt s ref)) CHAIN
-    (must (leb (2 + 2 * d .entries) (length (linkedBytes s ref))) CHAIN 0))
+-- the reference that the table with a reference names next
+abbrev pub nextOf : List ℕ → ℕ → ℕ
+nextOf s ref = nextTable (linkedBytes s ref)
 
--- the number of the first rule that a block breaks of which so many bytes are taken; 0 where it breaks none: it is not there, it is too short
-unfoldable pub linkedFault : List ℕ → ℕ → ℕ → ℕ
-linkedFault s ref count =
-    must (isThere (linkedAt s ref)) CHAIN
-    (must (leb count (length (linkedBytes s ref))) CHAIN 0)
+-- the table k links after the one with a reference, and the first k tables from that one on
+abbrev pub tableAfter : List ℕ → ℕ → ℕ → ℕ
+tableAfter s k ref = linkAfter (nextOf s) k ref
+
+abbrev pub tablesAfter : List ℕ → ℕ → ℕ → List ℕ
+tablesAfter s k ref = linksAfter (nextOf s) k ref
+
+-- the number of the first rule that a table or block breaks of which so many bytes are needed, 0 where it breaks none: one number where it is
+-- not there, another where it is too short
+unfoldable pub linkFault : List ℕ → ℕ → ℕ → ℕ → ℕ → ℕ
+linkFault s ref count absent short =
+    must (isThere (linkedAt s ref)) absent
+    (must (leb count (length (linkedBytes s ref))) short 0)
+
+-- a table, after the tables before it: it comes twice, it is not there, it has not all its entries
+unfoldable pub tableFault : List ℕ → Description → List ℕ → ℕ → ℕ
+tableFault s d before ref = must (not (any (eqb ref) before)) TABLE-LOOP (linkFault s ref (2 + 2 * d .entries) NO-TABLE SHORT-TABLE)
+
+-- a block of which so many bytes are taken
+unfoldable pub linkedBlockFault : List ℕ → ℕ → ℕ → ℕ
+linkedBlockFault s ref count = linkFault s ref count NO-BLOCK SHORT-BLOCK
 
 -- what a block gives of which so many bytes are taken
 unfoldable pub blockBytes : List ℕ → ℕ → ℕ → List ℕ

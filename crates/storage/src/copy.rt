@@ -2,22 +2,36 @@
 use super::element;
 use super::element::Element;
 use super::linked;
+use answer::Carrying;
 use answer::Refusal;
 use answer::refusals::ABSENT;
 use answer::refusals::SMALL;
 use directory::Opened;
+ghost use mathlib.Core.Path.{_≡_};
 ghost use Prim.Native.Nat.{_≤_};
 ghost use lib.ListN.{length};
+ghost use Rattle.answer.specs.Answer.{refusal};
 ghost use Rattle.answer.specs.Lent.{Does};
 ghost use Rattle.directory.specs.Slots.{contentAt};
 ghost use Rattle.directory.specs.Steps.Cursors.{most-place};
 ghost use Rattle.directory.specs.Steps.Opens.{Opens};
 ghost use Rattle.storage.specs.Copies.{copiedNumbers, inBlocks, copyAt, copyOf, elementBytes};
 
-// How many bytes were copied.
+// How many bytes were copied; a refusal carries the index of the table or block that is broken, 0 where it is none.
 pub enum Copied {
     Bytes(usize),
-    Refused(Refusal),
+    Refused(Carrying),
+}
+
+// A refusal that is about no table or block.
+fn refused(r: Refusal) -> Copied
+    ensures { λ x. ⌜ copiedNumbers x ≡ refusal 2 r ⌝ }
+{
+    Copied::Refused(Carrying {
+        number: r.number,
+        place: r.place,
+        value: 0,
+    })
 }
 
 // Copies the bytes of the element in linked blocks of the slot at p. All is judged first, by a walk that has no buffer to write to.
@@ -29,23 +43,24 @@ fn copy_blocks(image: &[u8], blocks: usize, p: usize, out: &mut [u8]) -> Copied
     let record = wire::part(image, element::start(image, p), element::size(image, p));
     let broken = linked::record_fault(record);
     if broken != 0 {
-        return Copied::Refused(Refusal {
+        return refused(Refusal {
             number: broken,
             place: p,
         });
     }
     let d = linked::read_description(record);
     if out.len() < d.length {
-        return Copied::Refused(Refusal {
+        return refused(Refusal {
             number: SMALL,
             place: 0,
         });
     }
-    let fault = linked::follow(image, blocks, d, &mut out[..0]);
-    if fault != 0 {
-        return Copied::Refused(Refusal {
-            number: fault,
+    let judged = linked::follow(image, blocks, d, &mut out[..0]);
+    if judged.fault != 0 {
+        return Copied::Refused(Carrying {
+            number: judged.fault,
             place: p,
+            value: judged.index,
         });
     }
     linked::follow(image, blocks, d, out);
@@ -59,10 +74,10 @@ pub fn copy(image: &[u8], tag: u16, reference: u16, out: &mut [u8]) -> Copied
 {
     let opened = directory::open(image);
     let Opened::Accepted(counts) = opened else {
-        return Copied::Refused(directory::refusal_of(opened));
+        return refused(directory::refusal_of(opened));
     };
     match element::find(image, counts.blocks, tag, reference) {
-        Element::Absent => Copied::Refused(Refusal {
+        Element::Absent => refused(Refusal {
             number: ABSENT,
             place: 0,
         }),
@@ -73,7 +88,7 @@ pub fn copy(image: &[u8], tag: u16, reference: u16, out: &mut [u8]) -> Copied
             length,
         } => {
             if out.len() < length {
-                return Copied::Refused(Refusal {
+                return refused(Refusal {
                     number: SMALL,
                     place: 0,
                 });

@@ -9,16 +9,21 @@ use super::format::LINKED_TAG;
 use super::format::MOST_TABLES;
 use super::format::RECORD_BYTES;
 use answer::refusals::CHAIN;
+use answer::refusals::NO_BLOCK;
+use answer::refusals::NO_TABLE;
+use answer::refusals::SHORT_BLOCK;
+use answer::refusals::SHORT_TABLE;
 use answer::refusals::STORAGE;
+use answer::refusals::TABLE_LOOP;
 ghost use mathlib.Core.Path.{_≡_};
-ghost use Prim.Native.Nat.{_-_, _%_};
+ghost use Prim.Native.Nat.{_+_, _*_, _-_, _%_};
 ghost use lib.Dec.{eqb};
 ghost use Rattle.answer.specs.Search.{any};
 ghost use Rattle.storage.specs.Descriptions.{recordFault};
-ghost use Rattle.storage.specs.Tables.{linkedAt};
+ghost use Rattle.storage.specs.Tables.{nextOf, tablesAfter, linkedAt, linkFault};
 ghost use Rattle.storage.specs.Walks.{share, blocksFrom, chainOf};
 ghost use Rattle.directory.specs.Steps.Opens.{Opens};
-ghost use Rattle.storage.specs.Steps.{InRange, Describes, nextOf, tablesAfter, Marked, Reached, Took, Followed};
+ghost use Rattle.storage.specs.Steps.{InRange, Describes, Reaches, nextFault, Marked, Reached, Took};
 
 // How many marks the tables of a chain share. A prime, so that references that ascend by the same step have marks of their own.
 const MARKS: usize = 251;
@@ -33,10 +38,26 @@ pub struct Description {
     pub table: u16,
 }
 
-// What a table came to: how many bytes are left to copy, and the number of the first fault, 0 where there is none.
-pub struct Taken {
+// What a walk came to: how many bytes are left to copy, the number of the first fault, 0 where there is none, and the index of the table or
+// block that has it.
+pub struct Walked {
     pub left: usize,
     pub fault: usize,
+    pub index: usize,
+}
+
+// A walk that goes no further.
+fn stopped(left: usize, fault: usize, index: usize) -> Walked
+    ensures { λ r. ⌜ r ≡ record { left = left; fault = fault; index = index } ⌝ }
+{
+    Walked { left, fault, index }
+}
+
+// A table or a block: the number of the first rule that it breaks, 0 where it breaks none, and where its bytes stand.
+pub struct Link {
+    pub fault: usize,
+    pub offset: usize,
+    pub length: usize,
 }
 
 pub(crate) fn read_description(bytes: &[u8]) -> Description
@@ -88,6 +109,47 @@ fn find_linked(image: &[u8], blocks: usize, reference: u16) -> Located
     element::locate(image, blocks, LINKED_TAG, reference)
 }
 
+// One that breaks a rule.
+fn broken(fault: usize) -> Link
+    ensures { λ r. ⌜ r ≡ record { fault = fault; offset = 0; length = 0 } ⌝ }
+{
+    Link {
+        fault,
+        offset: 0,
+        length: 0,
+    }
+}
+
+// The table or block with a reference, of which so many bytes are needed; where it is not there or too short its fault is the number for that.
+fn reach(
+    image: &[u8],
+    blocks: usize,
+    reference: u16,
+    needed: usize,
+    absent: usize,
+    short: usize,
+) -> Link
+    requires { ⌜ Opens (now image) blocks × (absent ≡ 0 → ⊥) × (short ≡ 0 → ⊥) ⌝ }
+    ensures { λ r. ⌜ Reaches (now (image .entry)) reference (linkFault (now (image .entry)) reference needed absent short) needed r ⌝ }
+{
+    let Located::Plain {
+        slot: _,
+        offset,
+        length,
+    } = find_linked(image, blocks, reference)
+    else {
+        return broken(absent);
+    };
+    if length < needed {
+        return broken(short);
+    }
+    Link {
+        fault: 0,
+        offset,
+        length,
+    }
+}
+
 // How many bytes the block of an index gives where so many are left.
 fn share_of(d: Description, index: usize, left: usize) -> usize
     ensures { λ r. ⌜ r ≡ share d index left ⌝ }
@@ -98,20 +160,13 @@ fn share_of(d: Description, index: usize, left: usize) -> usize
     wire::least(d.block, left)
 }
 
-// The reference that the table with a reference names next, 0 where that table is not there.
+// The reference that the table with a reference names next, 0 where that table is not there: its fault is not asked, and it has no bytes.
 fn next_table(image: &[u8], blocks: usize, reference: u16) -> u16
     requires { ⌜ Opens (now image) blocks ⌝ }
     ensures { λ r. ⌜ r ≡ nextOf (now (image .entry)) reference ⌝ }
 {
-    let Located::Plain {
-        slot: _,
-        offset,
-        length,
-    } = find_linked(image, blocks, reference)
-    else {
-        return 0;
-    };
-    wire::read16(wire::part(image, offset, length), 0) as u16
+    let link = reach(image, blocks, reference, 0, NO_TABLE, SHORT_TABLE);
+    wire::read16(wire::part(image, link.offset, link.length), 0) as u16
 }
 
 // Whether one of so many tables, from the first one on, has a reference. Each is looked up again.
@@ -157,6 +212,34 @@ fn seen(
     false
 }
 
+// The table with a reference, after so many others.
+fn reach_table(
+    image: &[u8],
+    blocks: usize,
+    d: Description,
+    marks: &[bool; 251],
+    count: usize,
+    reference: u16,
+) -> Link
+    requires { ⌜ Opens (now image) blocks × InRange d × Marked (now image) (d .table) count (now marks) ⌝ }
+    ensures { λ r. ⌜ Reaches (now (image .entry)) reference (nextFault (now (image .entry)) d count reference) (2 + 2 * d .entries) r ⌝ }
+{
+    if count == MOST_TABLES {
+        return broken(TABLE_LOOP);
+    }
+    if seen(image, blocks, d.table, marks, count, reference) {
+        return broken(TABLE_LOOP);
+    }
+    reach(
+        image,
+        blocks,
+        reference,
+        2 + 2 * d.entries,
+        NO_TABLE,
+        SHORT_TABLE,
+    )
+}
+
 // Copies what the blocks of one table give, of which the first has an index, where so many bytes are missing, up to the first fault.
 fn take_blocks(
     image: &[u8],
@@ -166,7 +249,7 @@ fn take_blocks(
     first: usize,
     missing: usize,
     out: &mut [u8],
-) -> Taken
+) -> Walked
     requires { ⌜ Opens (now image) blocks × InRange d × Reached d first missing ⌝ }
     ensures { λ r. ⌜ Took (blocksFrom (now (image .entry)) d (now (table .entry)) (d .entries) 0 first missing) (d .length - missing)
         (now (out .entry)) (now (out .exit)) r ⌝ }
@@ -175,33 +258,26 @@ fn take_blocks(
     let mut entry = 0;
     while entry < d.entries {
         if left == 0 {
-            return Taken { left, fault: 0 };
+            return stopped(left, 0, 0);
         }
-        let share = share_of(d, first + entry, left);
+        let index = first + entry;
+        let share = share_of(d, index, left);
         let reference = wire::read16(table, 2 + 2 * entry) as u16;
-        let Located::Plain {
-            slot: _,
-            offset,
-            length,
-        } = find_linked(image, blocks, reference)
-        else {
-            return Taken { left, fault: CHAIN };
-        };
-        if length < share {
-            return Taken { left, fault: CHAIN };
+        let block = reach(image, blocks, reference, share, NO_BLOCK, SHORT_BLOCK);
+        if block.fault != 0 {
+            return stopped(left, block.fault, index);
         }
-        wire::write_bytes(out, d.length - left, wire::part(image, offset, share));
+        wire::write_bytes(out, d.length - left, wire::part(image, block.offset, share));
         left -= share;
         entry += 1;
     }
-    Taken { left, fault: 0 }
+    stopped(left, 0, 0)
 }
 
-// Copies what the blocks of all tables give to the front of a buffer, as far as it reaches, up to the first fault: its number, 0 where
-// there is none.
-pub(crate) fn follow(image: &[u8], blocks: usize, d: Description, out: &mut [u8]) -> usize
+// Copies what the blocks of all tables give to the front of a buffer, as far as it reaches, up to the first fault.
+pub(crate) fn follow(image: &[u8], blocks: usize, d: Description, out: &mut [u8]) -> Walked
     requires { ⌜ Opens (now image) blocks × InRange d ⌝ }
-    ensures { λ r. ⌜ Followed (chainOf (now (image .entry)) d) (now (out .entry)) (now (out .exit)) r ⌝ }
+    ensures { λ r. ⌜ Took (chainOf (now (image .entry)) d) 0 (now (out .entry)) (now (out .exit)) r ⌝ }
 {
     let mut marks = [false; 251];
     let mut count = 0;
@@ -209,27 +285,14 @@ pub(crate) fn follow(image: &[u8], blocks: usize, d: Description, out: &mut [u8]
     let mut index = 0;
     let mut left = d.length;
     while 0 < left {
-        if count == MOST_TABLES {
-            return CHAIN;
+        let link = reach_table(image, blocks, d, &marks, count, reference);
+        if link.fault != 0 {
+            return stopped(left, link.fault, count);
         }
-        if seen(image, blocks, d.table, &marks, count, reference) {
-            return CHAIN;
-        }
-        let Located::Plain {
-            slot: _,
-            offset,
-            length,
-        } = find_linked(image, blocks, reference)
-        else {
-            return CHAIN;
-        };
-        let table = wire::part(image, offset, length);
-        if table.len() < 2 + 2 * d.entries {
-            return CHAIN;
-        }
+        let table = wire::part(image, link.offset, link.length);
         let taken = take_blocks(image, blocks, d, table, index, left, out);
         if taken.fault != 0 {
-            return taken.fault;
+            return taken;
         }
         marks[mark_of(reference)] = true;
         count += 1;
@@ -237,5 +300,5 @@ pub(crate) fn follow(image: &[u8], blocks: usize, d: Description, out: &mut [u8]
         index += d.entries;
         left = taken.left;
     }
-    0
+    stopped(left, 0, 0)
 }

@@ -9,7 +9,7 @@ use lib.Seq.{sets, take-append-seam}
 use lib.Dec.{leb, eqb}
 use borrow.Author.Tests.{leb-true, le-leb, lt-leb, eqb-true, eq-eqb, ne-eqb}
 use Rattle.answer.specs.Refusals.{TOO-LONG, SMALL, RECORD}
-use Rattle.answer.specs.Answer.{Answer, grant, refuse, refusal, unless, inRoom}
+use Rattle.answer.specs.Answer.{Answer, grant, refuse, refusal, unlessWith, unless, inRoom}
 use Rattle.answer.specs.Search.{Hit}
 use Rattle.answer.specs.declared.Refusal.{Refusal}
 use Rattle.answer.proofs.Search.{must-holds, must-fails, passed}
@@ -121,7 +121,7 @@ module _ (s : List ℕ) (o n : ℕ) (e : List ℕ) (of : e ≡ part s o n) (soun
 
 module _ (k : ℕ) (s : List ℕ) (answer : Answer) where
   long-stops : most-bytes < length s → unlessLong k s answer ≡ refuse k TOO-LONG 0
-  unfolding unlessLong unless
+  unfolding unlessLong unlessWith
   long-stops h = ap (λ n. unless k n 0 answer) (must-fails _ TOO-LONG 0 (lt-leb _ _ h))
 
   pub long-passes : length s ≤ most-bytes → unlessLong k s answer ≡ answer

@@ -8,6 +8,7 @@ mod choice;
 mod edits;
 mod elements;
 mod groups;
+mod links;
 mod list;
 mod lookup;
 mod opening;
@@ -38,12 +39,13 @@ struct Step {
     paper: Answer,
 }
 
-/// A rule, how it is broken, and number and place of the answer. The rule is named by its number and, where others have the
-/// same one, by a word.
+/// A rule, how it is broken, and number and place of the answer; of a broken table or block also its index. The rule is named by
+/// its number and, where others have the same one, by a word.
 struct Fault {
     rule: &'static str,
     name: &'static str,
     answer: [u64; 2],
+    index: Option<u64>,
     spoil: fn(&mut Ask),
 }
 
@@ -79,7 +81,7 @@ pub fn check() -> Result<[usize; 2], String> {
 }
 
 fn cases() -> Vec<Case> {
-    let elements = [lookup::cases(), elements::cases(), choice::cases()].concat();
+    let elements = [lookup::cases(), elements::cases(), links::cases(), choice::cases()].concat();
     let reading = [elements, records::cases(), groups::cases(), vdatas::cases()].concat();
     let edits = [edits::cases(), undo::cases()].concat();
     [
@@ -92,7 +94,13 @@ fn cases() -> Vec<Case> {
 }
 
 const fn fault(rule: &'static str, name: &'static str, answer: [u64; 2], spoil: fn(&mut Ask)) -> Fault {
-    Fault { rule, name, answer, spoil }
+    Fault { rule, name, answer, index: None, spoil }
+}
+
+/// A fault of a table or a block: number, place and index of the answer.
+const fn broken(rule: &'static str, name: &'static str, answer: [u64; 3], spoil: fn(&mut Ask)) -> Fault {
+    let [number, place, index] = answer;
+    Fault { rule, name, answer: [number, place], index: Some(index), spoil }
 }
 
 /// A call that is granted: its values, and what it writes.
@@ -126,11 +134,29 @@ fn with(faults: &[Fault], mut cases: Vec<Case>) -> Vec<Case> {
 }
 
 impl Fault {
+    /// What the paper answers where the rule is broken.
+    fn paper(&self) -> Answer {
+        self.index.map_or(Answer::refused(self.answer), |index| Answer::refused_at(self.answer, index))
+    }
+
+    /// The call with the fault in it.
+    fn in_ask(&self, ask: &Ask) -> Ask {
+        let mut ask = ask.clone();
+        (self.spoil)(&mut ask);
+        ask
+    }
+
+    /// A call with a fault that no rule is asked about.
+    fn unmet(&self, case: &Case) -> Case {
+        let Step { rule, ask, paper } = &case.steps[0];
+        let steps = vec![Step { rule, ask: self.in_ask(ask), paper: paper.clone() }];
+        Case { of: case.of, faults: vec![self.name], steps }
+    }
+
+    /// The case with the fault, whose rule is judged first.
     fn over(&self, case: &Case) -> Case {
         let behind = &case.steps[0];
-        let mut ask = behind.ask.clone();
-        (self.spoil)(&mut ask);
-        let step = Step { rule: self.rule, ask, paper: Answer::refused(self.answer) };
+        let step = Step { rule: self.rule, ask: self.in_ask(&behind.ask), paper: self.paper() };
         let steps = if behind.rule == NO_RULE { vec![step] } else { vec![step, behind.clone()] };
         Case { of: case.of, faults: [&[self.name], &case.faults[..]].concat(), steps }
     }

@@ -5,7 +5,7 @@ use super::{differ, Outcome, Pairs, Trial};
 use crate::lent::{surround, Lent};
 use crate::random::Random;
 use crate::reader::{self, base_tag, Directory, EXTENDED};
-use crate::storage::{self, is_extended, Opening, Reading, Way};
+use crate::storage::{self, is_extended, Opening, Reading, Refused, Way};
 use crate::tally::{Call, Tally};
 use hdf4_sys::{self as library, Answer, ChooseAnswer, CopyAnswer, ViewAnswer};
 use std::ops::Range;
@@ -93,15 +93,23 @@ fn compare_copy(trial: &mut Trial, tag: u16, reference: u16, room: usize) -> Out
     if let Ok((bytes, _)) = &reading {
         expected[..bytes.len()].copy_from_slice(bytes);
     }
-    trial.same(Call::Copy, &arguments, library, answer(reading, copied))?;
+    let answer = copied(&reading);
+    trial.tally.count_index(answer.number, answer.index);
+    trial.same(Call::Copy, &arguments, library, answer)?;
     match first_difference(&memory, &expected) {
         Some(difference) => differ(Call::Copy, &arguments, difference, "other bytes in the room".into()),
         None => Ok(()),
     }
 }
 
-pub fn copied(bytes: Vec<u8>) -> CopyAnswer {
-    CopyAnswer { length: bytes.len() as u64, ..CopyAnswer::default() }
+/// What the library must answer to a copy. A refusal has zeros, but for the index of a table or a block.
+pub fn copied(reading: &Reading<Vec<u8>>) -> CopyAnswer {
+    match reading {
+        Ok((bytes, _)) => CopyAnswer { length: bytes.len() as u64, ..CopyAnswer::default() },
+        Err(Refused { refusal, index, .. }) => {
+            CopyAnswer { index: *index, ..CopyAnswer::refused(refusal.number, refusal.place) }
+        }
+    }
 }
 
 /// Two images lent at once.
@@ -165,7 +173,7 @@ pub fn chosen((which, part): (u64, Range<u64>)) -> ChooseAnswer {
     ChooseAnswer { which, offset: part.start, length: part.end - part.start, ..ChooseAnswer::default() }
 }
 
-/// What the library must answer.
+/// What the library must answer to a view or a choice.
 pub fn answer<T, A: Answer>(reading: Reading<T>, granted: impl FnOnce(T) -> A) -> A {
     match reading {
         Ok((value, _)) => granted(value),

@@ -7,9 +7,10 @@ use super::parts::{self, Part};
 use crate::random::Random;
 use crate::reader::{EXTENDED, MACHINE_TYPE};
 use crate::storage::{LINKED, LINK_TAG, MOST_TABLES};
+use faults::{spoil, spoil_last_table, spoil_links, Fault};
 
 /// One linked file in so many has a long chain of tables.
-const LONG_EVERY: usize = 250;
+const LONG_EVERY: usize = 200;
 
 /// Where the fields of a record stand.
 const KIND: usize = 0;
@@ -38,10 +39,15 @@ struct Shape {
 }
 
 pub fn image(random: &mut Random) -> Vec<u8> {
-    let shape = if random.once_in(LONG_EVERY) { long(random) } else { short(random) };
+    let is_long = random.once_in(LONG_EVERY);
+    let shape = if is_long { long(random) } else { short(random) };
     let mut plan = plan(random, &shape);
-    for _ in 0..random.pick(&[0, 0, 1, 1, 1, 1, 1, 2, 2, 3]) {
-        faults::spoil(random, &mut plan);
+    let (faults, spoil): (usize, Fault) = match is_long {
+        true => (random.pick(&[0, 0, 0, 1, 1, 2]), random.pick(&[spoil, spoil_links, spoil_last_table])),
+        false => (random.pick(&[0, 0, 1, 1, 1, 1, 2, 2, 3, 4]), random.pick(&[spoil, spoil_links])),
+    };
+    for _ in 0..faults {
+        spoil(random, &mut plan);
     }
     let Plan { record, tables, blocks, others } = plan;
     parts::lay(random, tables.into_iter().chain(blocks).chain(others).chain([record]).collect())

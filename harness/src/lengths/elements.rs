@@ -1,10 +1,11 @@
 //! Linked elements that claim to be of the greatest length, with room for all of it. Their one block is short, so nothing is
 //! written.
 
+use crate::compare::storage::copied;
 use crate::reader::{self, FIRST_BYTES};
 use crate::storage;
 use crate::tally::{Call, Tally};
-use hdf4_sys::{self as library, Answer, CopyAnswer};
+use hdf4_sys as library;
 
 const MOST: u32 = u32::MAX;
 
@@ -15,12 +16,13 @@ pub fn compare_long_copies(room: &mut [u8], tally: &mut Tally) -> Result<(), Str
         let before = ends(room);
         let library = library::copy(&image, 100, 1, room);
         let reading = storage::copy(&image, &reader::open(&image), 100, 1, room.len());
+        let expected = copied(&reading);
         let Err(refused) = reading else { return Err(format!("{lengths:?}: granted by the reader")) };
-        let expected = CopyAnswer::refused(refused.refusal.number, refused.refusal.place);
         if library != expected || ends(room) != before {
             return Err(format!("copy of {lengths:?}\nlibrary {library:?}\nreader  {expected:?}"));
         }
         tally.count(Call::Copy, expected.number);
+        tally.count_index(expected.number, expected.index);
         tally.count_way(Call::Copy, refused.way);
     }
     Ok(())

@@ -3,8 +3,8 @@
 //! The crate `hdf4` is the one to use in a program: its calls give a `Result`.
 //!
 //! Every function returns a struct of numbers: number and place first (0 and 0 where the call is granted), then its values in
-//! order, zeros where it is refused. A slice passes as a pointer and a length, in entries of its type. A null pointer is allowed
-//! exactly where the length is 0. Nothing is written where a call is refused.
+//! order, zeros where it is refused, but for the index of `hdf4_copy`. A slice passes as a pointer and a length, in entries of
+//! its type. A null pointer is allowed exactly where the length is 0. Nothing is written where a call is refused.
 //!
 //! The numbers of refusals are named below. A place counts bytes from the start of the image.
 //!
@@ -35,7 +35,7 @@
 use std::fmt::Debug;
 
 /// The version of the library.
-pub const VERSION: &str = "0.1.0";
+pub const VERSION: &str = "0.2.0";
 
 /// The most bytes that an image has.
 pub const MOST_BYTES: usize = 2_147_483_647;
@@ -100,7 +100,7 @@ pub const ABSENT: u64 = 11;
 /// The element is extended, and not of a kind that the call reads.
 pub const STORAGE: u64 = 12;
 
-/// The linked blocks of the element are broken.
+/// The record of the element's linked blocks breaks its layout.
 pub const CHAIN: u64 = 13;
 
 /// The lent output is too short.
@@ -130,8 +130,23 @@ pub const BAD_TRAILER: u64 = 21;
 /// Groups are nested past 16; the place is the slot of the 16th.
 pub const DEEP: u64 = 22;
 
+/// A table of the element's linked blocks is absent or extended, or its reference is 0; the index is the table's.
+pub const NO_TABLE: u64 = 23;
+
+/// A table of the element's linked blocks has too few bytes for its entries; the index is the table's.
+pub const SHORT_TABLE: u64 = 24;
+
+/// A linked block is absent or extended, or its reference is 0; the index is the block's, through the whole element.
+pub const NO_BLOCK: u64 = 25;
+
+/// A linked block has fewer bytes than are taken from it; the index is the block's, through the whole element.
+pub const SHORT_BLOCK: u64 = 26;
+
+/// A table of the element's linked blocks is one already walked, or a 257th; the index is the table's.
+pub const TABLE_LOOP: u64 = 27;
+
 /// The number and the name of each refusal and what it says, in words for a person.
-pub const REFUSALS: [(u64, &str, &str); 22] = [
+pub const REFUSALS: [(u64, &str, &str); 27] = [
     (TOO_LONG, "TOO_LONG", "the file is too long"),
     (NOT_HDF, "NOT_HDF", "this is no HDF4 file"),
     (DIR_CUT, "DIR_CUT", "a block of descriptors is not wholly inside the file"),
@@ -144,7 +159,7 @@ pub const REFUSALS: [(u64, &str, &str); 22] = [
     (TWICE, "TWICE", "two elements have the same tag and reference"),
     (ABSENT, "ABSENT", "there is no element with that tag and reference"),
     (STORAGE, "STORAGE", "the element is stored in a way that is not read here"),
-    (CHAIN, "CHAIN", "the linked blocks of the element are broken"),
+    (CHAIN, "CHAIN", "the record of the element's linked blocks breaks its layout"),
     (SMALL, "SMALL", "the output is too short"),
     (RECORD, "RECORD", "a record breaks its layout"),
     (TYPE, "TYPE", "a number type is not known"),
@@ -154,11 +169,16 @@ pub const REFUSALS: [(u64, &str, &str); 22] = [
     (NO_EDIT, "NO_EDIT", "there is no edit to undo"),
     (BAD_TRAILER, "BAD_TRAILER", "the trailer of the last edit is damaged"),
     (DEEP, "DEEP", "groups are nested more than 16 deep"),
+    (NO_TABLE, "NO_TABLE", "a table of the element's linked blocks is not there"),
+    (SHORT_TABLE, "SHORT_TABLE", "a table of the element's linked blocks is too short"),
+    (NO_BLOCK, "NO_BLOCK", "a linked block of the element is not there"),
+    (SHORT_BLOCK, "SHORT_BLOCK", "a linked block of the element is too short"),
+    (TABLE_LOOP, "TABLE_LOOP", "the tables of the element's linked blocks repeat or run past 256"),
 ];
 
 /// What all answers have in common.
 pub trait Answer: Debug + PartialEq {
-    /// The answer of a call that is refused: zeros in every value.
+    /// The answer of a call that is refused, with zeros in every value.
     fn refused(number: u64, place: u64) -> Self;
     /// The refusal's number, 0 where the call is granted.
     fn number(&self) -> u64;
@@ -271,10 +291,12 @@ pub struct CopyAnswer {
     pub place: u64,
     /// Bytes of the element.
     pub length: u64,
+    /// Which table or block of the element's linked blocks is broken, counted from 0, where the number is 23 to 27; else 0.
+    pub index: u64,
 }
 
 answer! {
-    CopyAnswer: length
+    CopyAnswer: length, index
 }
 
 /// An element's own part of one of two images.
@@ -678,7 +700,8 @@ pub fn view(image: &[u8], tag: u16, reference: u16) -> ViewAnswer {
 }
 
 /// Copies an element's bytes to the front of a lent output; the rest of it stays as it was. The element is plain or of linked
-/// blocks. The output may not lie in the image.
+/// blocks. Where a table or a block is broken the refusal says which: its place is the element's slot, and its index that of the
+/// first one that a walk meets. The output may not lie in the image.
 #[inline]
 pub fn copy(image: &[u8], tag: u16, reference: u16, out: &mut [u8]) -> CopyAnswer {
     unsafe { hdf4_copy(image.as_ptr(), image.len(), tag, reference, out.as_mut_ptr(), out.len()) }

@@ -2,8 +2,8 @@
 use mathlib.Core.Path.{sym, ap, _∙_}
 use Rattle.storage.specs.Copies.{copiedNumbers}
 use Rattle.answer.proofs.Lent
-use Rattle.answer.proofs.Answer.{told}
-use Rattle.hdf4.proofs.Proper
+use Rattle.answer.proofs.Answer.{carrying-told}
+use Rattle.storage.proofs.CopyRules.{copy-shape}
 use borrow.Author.Needs.{needs}
 use Rattle.hdf4.proofs.hdf4_copy.Statement.{statement}
 use Rattle.hdf4.proofs.hdf4_copy.Tie as tie
@@ -27,7 +27,9 @@ same-length-2 : tie.Need-same-length-2
 same-length-2 c = search needs
 
 returns-2 : tie.Need-returns-2
-returns-2 c = let d = c .before .before .before .before .before .copy .ensures in Lent.retold d (told 1 (c .before .copied2 .given .0 .0) _ (Proper.copy-proper _ _ _ _) (ap copiedNumbers (sym (c .before .copied2 .given .1)) ∙ d .answers))
+returns-2 c =
+    let d = c .before .before .before .before .before .copy .ensures in
+    Lent.retold d (carrying-told 1 (c .before .copied2 .given .0 .0) _ _ (copy-shape _ _ _ _) (ap copiedNumbers (sym (c .before .copied2 .given .1)) ∙ d .answers))
 
 pub hdf4-copy-spec : {M : Type 1} → statement M
 hdf4-copy-spec =

@@ -137,6 +137,11 @@ impl Answer {
         Answer { numbers: vec![number, place], written: Written::default() }
     }
 
+    /// The refusal of a copy by a table or a block: its index stands behind the length.
+    pub fn refused_at([number, place]: [u64; 2], index: u64) -> Answer {
+        Answer { numbers: vec![number, place, 0, index], written: Written::default() }
+    }
+
     /// A grant: the values, and what is written.
     pub fn granted(values: &[u64], written: Written) -> Answer {
         Answer { numbers: [&[0, 0], values].concat(), written }

@@ -64,8 +64,9 @@ fn read(ask: &Ask, image: &[u8], opening: &Opening) -> Answer {
 
 fn copy(image: &[u8], opening: &Opening, (tag, reference): (u16, u16), room: usize) -> Answer {
     let reading = storage::copy(image, opening, tag, reference, room);
-    let bytes = reading.as_ref().map_or(Vec::new(), |(bytes, _)| bytes.clone());
-    with(compared::answer(reading, copied), Written { bytes, ..Written::default() })
+    let numbers = copied(&reading);
+    let bytes = reading.map_or(Vec::new(), |(bytes, _)| bytes);
+    with(numbers, Written { bytes, ..Written::default() })
 }
 
 /// A call that writes lists to lent tables.

@@ -6,18 +6,20 @@ use crate::tally::{Call, CALLS};
 use std::collections::BTreeSet;
 
 /// The last number of the paper's table.
-const LAST_NUMBER: u64 = 22;
+const LAST_NUMBER: u64 = 27;
 
 type Rules = &'static [&'static str];
 
 /// What must be shown of some calls: that they are granted; each rule alone; the rules ahead before those of opening and those
-/// behind, and those of opening before those behind; and rules that are judged each before each of others.
+/// behind, and those of opening before those behind; rules that are judged each before each of others; and further rules behind,
+/// in stages, those of each stage judged before those of all later ones.
 struct Must {
     calls: &'static [Call],
     ahead: Rules,
     opening: Rules,
     behind: Rules,
     order: &'static [(Rules, Rules)],
+    stages: &'static [Rules],
 }
 
 /// A call, and the rule or the two rules of which there must be a case.
@@ -64,24 +66,30 @@ fn shown_by(case: &Case) -> Shown {
 
 impl Must {
     fn shown(&self) -> Vec<Shown> {
-        let Must { calls, ahead, opening, behind, order } = *self;
+        let Must { calls, ahead, opening, behind, order, stages } = *self;
+        let behind = &[behind, &stages.concat()].concat();
         let alone = [&[NO_RULE], ahead, opening, behind].concat();
         let mut rules: Vec<Vec<&'static str>> = alone.into_iter().map(|rule| vec![rule]).collect();
-        for (first, second) in [&[(ahead, opening), (ahead, behind), (opening, behind)], order].concat() {
+        let mut add = |first: &[&'static str], second: &[&'static str]| {
             rules.extend(first.iter().flat_map(|first| second.iter().map(|second| vec![*first, *second])));
-        }
+        };
+        [(ahead, opening)].iter().chain(order).for_each(|(first, second)| add(first, second));
+        [ahead, opening].iter().for_each(|first| add(first, behind));
+        stages.iter().enumerate().for_each(|(at, first)| add(first, &stages[at + 1..].concat()));
         let of =
             |call: &Call| -> Vec<Shown> { rules.iter().map(|rules| (format!("{call:?}"), rules.clone())).collect() };
         calls.iter().flat_map(of).collect()
     }
 }
 
-const ALL: [Must; 24] = [
+const ALL: [Must; 26] = [
     OPEN,
     FIND,
     LIST,
     VIEW,
     COPY,
+    COPY_LONG,
+    COPY_FAR,
     CHOOSE,
     ADD,
     REPLACE_REMOVE,
@@ -105,17 +113,17 @@ const ALL: [Must; 24] = [
 
 /// A call that reads an image.
 const fn reading(calls: &'static [Call], behind: Rules, order: &'static [(Rules, Rules)]) -> Must {
-    Must { calls, ahead: &["1"], opening: OPENING, behind, order }
+    Must { calls, ahead: &["1"], opening: OPENING, behind, order, stages: &[] }
 }
 
 /// A call on a buffer. The length that it is given may be past the buffer, or past the limit.
 const fn editing(calls: &'static [Call], behind: Rules, order: &'static [(Rules, Rules)]) -> Must {
-    Must { calls, ahead: &["1 buffer", "1 limit"], opening: OPENING, behind, order }
+    Must { calls, ahead: &["1 buffer", "1 limit"], opening: OPENING, behind, order, stages: &[] }
 }
 
 /// A call that opens nothing.
 const fn packing(calls: &'static [Call], behind: Rules, order: &'static [(Rules, Rules)]) -> Must {
-    Must { calls, ahead: &[], opening: &[], behind, order }
+    Must { calls, ahead: &[], opening: &[], behind, order, stages: &[] }
 }
 
 /// Opening comes first in every call. Shown for each are its length, its first bytes, a fault of the chain and one of a slot.
@@ -146,6 +154,7 @@ const OPEN: Must = Must {
         // Of one slot, or of a slot and a later one.
         (SLOT, SLOT),
     ],
+    stages: &[],
 };
 
 const SLOT: Rules = &["7", "8", "9", "10"];
@@ -157,37 +166,58 @@ const LIST: Must = reading(&[Call::List], &["14"], &[]);
 /// A pair that is absent has no storage.
 const VIEW: Must = reading(&[Call::View], &["11", "12"], &[]);
 
-/// A record under 4 bytes has no length, and so no room that is too small.
+/// A record under 4 bytes has no length, and so no room that is too small, and no table. The tables and blocks are those of an
+/// element of four blocks, two for each table, or of a longer one that would need a third table. A first table repeats none, and
+/// one that repeats another is there and whole.
 const COPY: Must = Must {
-    behind: &[
-        "11",
-        "13 cut",
-        "12",
-        "13 size",
-        "13 first_len",
-        "13 blk_len",
-        "13 num_blk",
-        "14",
-        "13 table 0",
-        "13 table absent",
-        "13 table extended",
-        "13 table short",
-        "13 table twice",
-        "13 257th table",
-        "13 block 0",
-        "13 block absent",
-        "13 block extended",
-        "13 block short",
-    ],
-    order: &[
-        (&["13 cut"], &["12"]),
-        (&["12"], &["13 size", "13 first_len", "13 blk_len", "13 num_blk", "14"]),
-        (&["13 size", "13 first_len", "13 blk_len", "13 num_blk"], &["14"]),
-        (&["14"], &["13 table 0", "13 table absent", "13 table extended", "13 table short", "13 table twice"]),
-        (&["14"], &["13 257th table", "13 block 0", "13 block absent", "13 block extended", "13 block short"]),
+    behind: &["11", "13 cut"],
+    order: &[(&["13 cut"], &["12"])],
+    stages: &[
+        &["12"],
+        &["13 size", "13 first_len", "13 blk_len", "13 num_blk"],
+        &["14"],
+        &["23 zero", "23 absent", "23 extended"],
+        &["24"],
+        &["25 zero", "25 absent", "25 extended"],
+        &["26"],
+        &["25 second zero", "25 second absent", "25 second extended"],
+        &["26 second"],
+        &["27 twice"],
+        &["23 second zero", "23 second absent", "23 second extended"],
+        &["24 second"],
+        &["25 third zero", "25 third absent", "25 third extended"],
+        &["26 third"],
+        &["25 last zero", "25 last absent", "25 last extended"],
+        &["26 last"],
+        &["27 third"],
+        &["23 third zero", "23 third absent"],
     ],
     ..reading(&[Call::Copy], &[], &[])
 };
+
+/// A chain that comes to a 257th table, and the same where it is the 256th and is broken or has a broken block.
+const COPY_LONG: Must = Must {
+    order: &[
+        (&["23 zero", "23 absent", "23 extended", "24"], &["27 257th"]),
+        (&["25 zero", "25 absent", "25 extended", "26", "27 twice"], &["27 257th"]),
+    ],
+    stages: &[&["14"], &["27 257th"], AT_256TH],
+    ..reading(&[Call::Copy], &[], &[])
+};
+
+const AT_256TH: Rules = &[
+    "23 256th zero",
+    "23 256th absent",
+    "23 256th extended",
+    "24 256th",
+    "25 256th zero",
+    "25 256th absent",
+    "25 256th extended",
+    "26 256th",
+];
+
+/// An index of more than 16 bits.
+const COPY_FAR: Must = reading(&[Call::Copy], &["14", "25 far zero"], &[(&["14"], &["25 far zero"])]);
 
 const CHOOSE: Must = reading(
     &[Call::Choose],
@@ -242,6 +272,7 @@ const UNDO_TRAILER: Must = Must {
         (&["21 padding"], &["21 previous", "21 restored"]),
         (&["21 previous"], &["21 restored"]),
     ],
+    stages: &[],
 };
 
 const NUMBER_TYPE: Must = reading(&[Call::ReadNumberType], &["11", "12", "15"], &[(&["12"], &["15"])]);

@@ -6,9 +6,9 @@ use crate::images::parts::Part;
 use crate::random::Random;
 use crate::reader::FREE;
 
-type Fault = fn(&mut Random, &mut Plan);
+pub type Fault = fn(&mut Random, &mut Plan);
 
-const FAULTS: [Fault; 20] = [
+const OF_THE_RECORD: [Fault; 9] = [
     record_cut,
     record_size,
     other_kind,
@@ -18,22 +18,48 @@ const FAULTS: [Fault; 20] = [
     absurd_length,
     absurd_block_count,
     absurd_block_length,
+];
+
+const OF_THE_LINKS: [Fault; 14] = [
     table_absent,
     table_extended,
     table_short,
     table_again,
     table_zero,
+    table_elsewhere,
+    table_is_a_block,
     block_absent,
     block_extended,
     block_short,
     block_again,
     block_zero,
+    block_elsewhere,
     block_is_a_table,
 ];
 
+/// Something is wrong with the record, a table or a block.
 pub fn spoil(random: &mut Random, plan: &mut Plan) {
-    let fault = random.pick(&FAULTS);
-    fault(random, plan);
+    match random.once_in(2) {
+        true => random.pick(&OF_THE_RECORD)(random, plan),
+        false => spoil_links(random, plan),
+    }
+}
+
+/// Something is wrong with a table or a block.
+pub fn spoil_links(random: &mut Random, plan: &mut Plan) {
+    random.pick(&OF_THE_LINKS)(random, plan);
+}
+
+/// Something is wrong with the last table, or with the reference that leads to it.
+pub fn spoil_last_table(random: &mut Random, plan: &mut Plan) {
+    let last = plan.tables.len() - 1;
+    match random.below(5) {
+        0 => plan.tables[last].tag = FREE,
+        1 => plan.tables[last].extend(),
+        2 => plan.tables[last].bytes.truncate(random.below(4)),
+        3 => lead_to(plan, last, 0),
+        _ => lead_to(plan, last, random.u16()),
+    }
 }
 
 fn record_cut(random: &mut Random, plan: &mut Plan) {
@@ -107,20 +133,43 @@ fn table_short(random: &mut Random, plan: &mut Plan) {
 
 /// A table leads back to itself or to one before it.
 fn table_again(random: &mut Random, plan: &mut Plan) {
-    let from = random.below(plan.tables.len());
+    let from = any_index(random, plan.tables.len());
     let to = plan.tables[random.below(from + 1)].reference;
     plan.tables[from].put(0, &to.to_be_bytes());
 }
 
 /// A reference of 0 leads to a table; at times there is a table with that reference.
 fn table_zero(random: &mut Random, plan: &mut Plan) {
-    let index = random.below(plan.tables.len());
-    match index {
-        0 => plan.record.put(TABLE, &[0, 0]),
-        _ => plan.tables[index - 1].put(0, &[0, 0]),
-    }
+    let index = put_table(random, plan, 0);
     if random.once_in(2) {
         plan.tables[index].reference = 0;
+    }
+}
+
+/// A reference that is hardly there leads to a table.
+fn table_elsewhere(random: &mut Random, plan: &mut Plan) {
+    let reference = random.u16();
+    put_table(random, plan, reference);
+}
+
+/// A block is taken for a table. It is seldom long enough.
+fn table_is_a_block(random: &mut Random, plan: &mut Plan) {
+    let block = any(random, &mut plan.blocks).reference;
+    put_table(random, plan, block);
+}
+
+/// Another reference leads to a table. Answers which one would have come there.
+fn put_table(random: &mut Random, plan: &mut Plan, reference: u16) -> usize {
+    let index = any_index(random, plan.tables.len());
+    lead_to(plan, index, reference);
+    index
+}
+
+/// Another reference in the place of the one that leads to the table with an index.
+fn lead_to(plan: &mut Plan, index: usize, reference: u16) {
+    match index {
+        0 => plan.record.put(TABLE, &reference.to_be_bytes()),
+        _ => plan.tables[index - 1].put(0, &reference.to_be_bytes()),
     }
 }
 
@@ -151,6 +200,12 @@ fn block_zero(random: &mut Random, plan: &mut Plan) {
     }
 }
 
+/// An entry names a block that is hardly there.
+fn block_elsewhere(random: &mut Random, plan: &mut Plan) {
+    let reference = random.u16();
+    put_entry(random, plan, reference);
+}
+
 /// An entry names a table, whose bytes are taken like any others.
 fn block_is_a_table(random: &mut Random, plan: &mut Plan) {
     let table = any(random, &mut plan.tables).reference;
@@ -164,6 +219,12 @@ fn put_entry(random: &mut Random, plan: &mut Plan, reference: u16) {
 }
 
 fn any<'a>(random: &mut Random, parts: &'a mut [Part]) -> &'a mut Part {
-    let index = random.below(parts.len());
+    let index = any_index(random, parts.len());
     &mut parts[index]
+}
+
+/// The first, the last, or any of so many.
+fn any_index(random: &mut Random, count: usize) -> usize {
+    let index = random.below(count);
+    random.pick(&[0, index, index, count - 1])
 }

@@ -41,15 +41,21 @@ enum-told c = search needs
 refusal-of-requires : tie.Need-refusal-of-requires
 refusal-of-requires c κs = search needs
 
+refused-requires : tie.Need-refused-requires
+refused-requires c κs = search needs
+
 returns : tie.Need-returns
 unfolding copyOf
-returns c = Opens.unopened-does _ _ (c .before .before .before .«open» .ensures) 1 _ _ _ _ (c .before .enum-told .given .1) _ (c .refusal-of .ensures)
+returns c = Lent.restated (c .refused .ensures) (Opens.unopened-does _ _ (c .before .before .before .before .«open» .ensures) 2 _ _ _ _ (c .before .before .enum-told .given .1) _ (c .before .refusal-of .ensures))
 
 find-requires : tie.Need-find-requires
 find-requires c κs = search needs
 
 enum-told-2 : tie.Need-enum-told-2
 enum-told-2 c = search needs
+
+refused-requires-2 : tie.Need-refused-requires-2
+refused-requires-2 c κs = search needs
 
 enum-known-slot : tie.Need-enum-known-slot
 enum-known-slot c = search needs
@@ -60,8 +66,11 @@ copy-blocks-requires c κs = (opens (c .before .before .before .before .before),
 enum-known-offset : tie.Need-enum-known-offset
 enum-known-offset c = search needs
 
+refused-requires-3 : tie.Need-refused-requires-3
+refused-requires-3 c κs = search needs
+
 returns-2 : tie.Need-returns-2
-returns-2 c = Copies.copied _ _ _ (opens (c .before .before .before .before .before) .sound) _ (found (c .before .before .before .before) ∙ c .before .before .offset .given .1) _ _ _ (Copies.plain-small _ _ _ _ _ (c .if1 .taken))
+returns-2 c = Lent.restated (c .refused3 .ensures) (Copies.copied _ _ _ (opens (c .before .before .before .before .before .before) .sound) _ (found (c .before .before .before .before .before) ∙ c .before .before .before .offset .given .1) _ _ _ (Copies.plain-small _ _ _ _ _ (c .before .if1 .taken)))
 
 part-requires : tie.Need-part-requires
 part-requires c κs = search needs
@@ -70,7 +79,7 @@ write-bytes-requires : tie.Need-write-bytes-requires
 write-bytes-requires c κs = search needs
 
 returns-3 : tie.Need-returns-3
-returns-3 c = Copies.copied _ _ _ (opens (c .before .before .before) .sound) _ (found (c .before .before) ∙ c .enum-told2 .given .1) _ _ _ (Lent.refuses _ _ _ 1 (record { number = 11; place = 0 }) refl (λ z. omega arith))
+returns-3 c = Lent.restated (c .refused2 .ensures) (Copies.copied _ _ _ (opens (c .before .before .before .before) .sound) _ (found (c .before .before .before) ∙ c .before .enum-told2 .given .1) _ _ _ (Lent.refuses _ _ _ 2 (record { number = 11; place = 0 }) refl (λ z. omega arith)))
 
 same-length : tie.Need-same-length
 same-length c = search needs
@@ -95,12 +104,15 @@ copy-spec =
     enum-known-opened
     enum-told
     refusal-of-requires
+    refused-requires
     returns
     find-requires
     enum-told-2
+    refused-requires-2
     enum-known-slot
     copy-blocks-requires
     enum-known-offset
+    refused-requires-3
     returns-2
     part-requires
     write-bytes-requires

@@ -1,7 +1,7 @@
 -- `storage::copy::copy_blocks` meets its contract. Assumes nothing.
 use mathlib.Core.Path.{_≡_, sym, ap, _∙_}
 use mathlib.Core.List.{_++_}
-use Rattle.wire.specs.Numbers.{part}
+use Rattle.answer.proofs.Lent
 use Rattle.directory.specs.Slots.{contentAt}
 use Rattle.storage.specs.Descriptions.{recordFault, descriptionOf}
 use Rattle.storage.proofs.Elements
@@ -17,6 +17,10 @@ content c = c .part .ensures ∙ rw (c .before .before .start .ensures, c .befor
 
 fault : (c : tie.After-record-fault) → let a = c .before .before .before .before .before .before .args in c .record-fault .result ≡ recordFault (contentAt (a .image .now) (a .p))
 fault c = c .record-fault .ensures ∙ ap recordFault (content (c .before))
+
+-- it breaks no rule
+sound : (c : tie.Else1) → let a = c .before .before .before .before .before .before .before .args in recordFault (contentAt (a .image .now) (a .p)) ≡ 0
+sound c = sym (fault (c .before)) ∙ c .if1 .left
 
 described : (c : tie.After-read-description) → let a = c .before .before .before .before .before .before .before .before .args in c .read-description .result ≡ descriptionOf (contentAt (a .image .now) (a .p))
 described c = c .read-description .ensures .is ∙ ap descriptionOf (content (c .before .before .before))
@@ -37,14 +41,20 @@ part-requires c κs = search needs
 record-fault-requires : tie.Need-record-fault-requires
 record-fault-requires c κs = search needs
 
+refused-requires : tie.Need-refused-requires
+refused-requires c κs = search needs
+
 returns : tie.Need-returns
-returns c = Copies.blocks-record _ _ _ _ _ (fault (c .before)) (c .if1 .taken)
+returns c = Lent.restated (c .refused .ensures) (Copies.blocks-record _ _ _ _ _ (fault (c .before .before)) (c .before .if1 .taken))
 
 read-description-requires : tie.Need-read-description-requires
 read-description-requires c κs = search needs
 
+refused-requires-2 : tie.Need-refused-requires-2
+refused-requires-2 c κs = search needs
+
 returns-2 : tie.Need-returns-2
-returns-2 c = Copies.blocks-small _ _ _ _ (sym (fault (c .before .before .before .before)) ∙ c .before .before .before .if1 .left) _ (described (c .before .before)) (c .if2 .taken)
+returns-2 c = Lent.restated (c .refused2 .ensures) (Copies.blocks-small _ _ _ _ (sound (c .before .before .before .before)) _ (described (c .before .before .before)) (c .before .if2 .taken))
 
 slice-relend-prefix-follow : tie.Need-slice-relend-prefix-follow
 slice-relend-prefix-follow c = search needs
@@ -59,16 +69,20 @@ same-length : tie.Need-same-length
 same-length c = search needs
 
 returns-3 : tie.Need-returns-3
-returns-3 c = rw (unchanged (c .before .before .before)) (Copies.blocks-chain _ _ _ _ (sym (fault (c .before .before .before .before .before .before .before .before .before)) ∙ c .before .before .before .before .before .before .before .before .if1 .left) _ (described (c .before .before .before .before .before .before .before)) (c .before .before .before .before .before .if2 .left) _ (c .before .before .before .follow .ensures .fault) (c .if3 .taken))
+returns-3 c =
+    rw (unchanged (c .before .before .before .before))
+    (Copies.blocks-chain _ _ _ _ (sound (c .before .before .before .before .before .before .before .before .before)) _ (described (c .before .before .before .before .before .before .before .before)) (c .before .before .before .before .before .before .if2 .left) _ _ (c .before .before .before .before .follow .ensures .fault) (c .before .before .before .before .follow .ensures .index) (c .if3 .taken))
 
 follow-requires-2 : tie.Need-follow-requires-2
-follow-requires-2 c κs = (c .before .before .before .before .before .before .before .before .before .before .before .before .before .before .before .before .pre .0, c .before .before .before .before .before .before .before .before .read-description .ensures .small)
+follow-requires-2 c κs = (c .before .before .before .before .before .before .before .before .before .before .before .before .before .before .before .before .before .pre .0, c .before .before .before .before .before .before .before .before .before .read-description .ensures .small)
 
 same-length-2 : tie.Need-same-length-2
 same-length-2 c = search needs
 
 returns-4 : tie.Need-returns-4
-returns-4 c = Copies.blocks-granted _ _ _ _ (sym (fault (c .before .before .before .before .before .before .before .before .before .before .before .before .before)) ∙ c .before .before .before .before .before .before .before .before .before .before .before .before .if1 .left) _ (described (c .before .before .before .before .before .before .before .before .before .before .before)) (c .before .before .before .before .before .before .before .before .before .if2 .left) (sym (c .before .before .before .before .before .before .before .follow .ensures .fault) ∙ c .before .before .before .before .if3 .left) _ (rw (unchanged (c .before .before .before .before .before .before .before)) at (c .before .before .follow2 .ensures .leaves))
+returns-4 c =
+    Copies.blocks-granted _ _ _ _ (sound (c .before .before .before .before .before .before .before .before .before .before .before .before .before)) _ (described (c .before .before .before .before .before .before .before .before .before .before .before .before)) (c .before .before .before .before .before .before .before .before .before .before .if2 .left) (sym (c .before .before .before .before .before .before .before .before .follow .ensures .fault) ∙ c .before .before .before .before .if3 .left) _
+    (rw (unchanged (c .before .before .before .before .before .before .before .before)) at (c .before .before .follow2 .ensures .leaves))
 
 pub copy-blocks-spec : {M : Type 1} → statement M
 copy-blocks-spec =
@@ -78,8 +92,10 @@ copy-blocks-spec =
     size-requires
     part-requires
     record-fault-requires
+    refused-requires
     returns
     read-description-requires
+    refused-requires-2
     returns-2
     slice-relend-prefix-follow
     slice-aggregate-follow

@@ -6,7 +6,7 @@ use borrow.Author.Needs.{needs}
 use borrow.Author.Tests.{eq-eqb, ne-eqb}
 use Rattle.answer.specs.Search.{any}
 use Rattle.answer.proofs.Links
-use Rattle.storage.specs.Steps.{tablesAfter}
+use Rattle.storage.specs.Tables.{tablesAfter}
 use Rattle.storage.proofs.linked.among.Statement.{statement}
 use Rattle.storage.proofs.linked.among.Tie as tie
 

@@ -1,9 +1,12 @@
 -- `storage::linked::take_blocks` meets its contract. The invariant: what is left of the walk over the table is what the walk comes to.
 -- Assumes nothing.
-use Prim.Native.Nat.{_-_}
+use Prim.Native.Nat.{_+_, _-_}
+use native.Mathlib.Nat.{suc-ne-zero}
 use native.Mathlib.Omega.{arith}
-use Rattle.storage.specs.Tables.{blockRef}
-use Rattle.storage.proofs.Tables
+use mathlib.Core.Path.{sym, _∙_}
+use Rattle.storage.specs.Tables.{blockRef, linkedBlockFault}
+use Rattle.storage.specs.Walks.{share}
+use Rattle.storage.specs.Steps.{Reaches}
 use Rattle.storage.proofs.Walks
 use Rattle.storage.proofs.Steps
 use borrow.Author.Needs.{needs}
@@ -17,21 +20,26 @@ abbrev μ-loop : tie.MeasureT-loop
 μ-loop image blocks d table first missing out₀ left₀ entry₀ out left entry = d .entries - entry
 
 -- the block that the entry names
-there : (c : tie.After-known-told Inv-loop μ-loop) → let l = c .before .before .before .before .before .before .before .before .before .loop in let a = c .before .before .before .before .before .before .before .before .before .before .before .before .before .args in
-    Tables.There (a .image .now) (blockRef (a .table .now) (l .entry)) (c .before .offset .given .0 .1 .0) (c .before .offset .given .0 .1 .1 .0)
-there c = Tables.linked-there _ _ _ _ _ (c .before .before .before .before .before .before .before .before .before .before .before .before .before .pre .0 .sound) _ (rw (c .before .before .before .before .read16 .ensures .is) at (c .before .before .before .find-linked .ensures)) (c .before .offset .given .1)
+reached : (c : tie.After-reach Inv-loop μ-loop) → let l = c .before .before .before .before .before .before .loop in let a = c .before .before .before .before .before .before .before .before .before .before .args in
+    let n = share (a .d) (a .first + l .entry) (l .left) in let ref = blockRef (a .table .now) (l .entry) in
+    Reaches (a .image .now) ref (linkedBlockFault (a .image .now) ref n) n (c .reach .result)
+unfolding linkedBlockFault
+reached c = rw (c .before .read16 .ensures .is, c .before .before .share-of .ensures) at (c .reach .ensures)
 
 loop-holds : tie.Need-loop-holds Inv-loop μ-loop
 loop-holds c = Steps.taking-start _ _ _ _ _ _ (c .before .before .before .pre .2 .less)
 
+stopped-requires : tie.Need-stopped-requires Inv-loop μ-loop
+stopped-requires c κs = search needs
+
 same-length : tie.Need-same-length Inv-loop μ-loop
-same-length c = c .before .before .before .loop .inv .long
+same-length c = c .before .before .before .before .loop .inv .long
 
 returns : tie.Need-returns Inv-loop μ-loop
-returns c = Steps.taken-enough _ _ _ _ _ _ _ _ _ (c .before .before .before .loop .inv) (c .if2 .taken)
+returns c = rw (c .stopped .ensures) (Steps.taken-enough _ _ _ _ _ _ _ _ _ (c .before .before .before .before .loop .inv) (c .before .if2 .taken))
 
-add-share-of : tie.Need-add-share-of Inv-loop μ-loop
-add-share-of c = omega (arith, c .before .before .before .before .before .before .before .pre .2 .low, c .before .before .before .before .before .before .before .pre .1 .entries, c .before .if1 .taken)
+add-index : tie.Need-add-index Inv-loop μ-loop
+add-index c = omega (arith, c .before .before .before .before .before .before .before .pre .2 .low, c .before .before .before .before .before .before .before .pre .1 .entries, c .before .if1 .taken)
 
 share-of-requires : tie.Need-share-of-requires Inv-loop μ-loop
 share-of-requires c κs = search needs
@@ -48,31 +56,20 @@ read16-requires c κs = search needs
 cast-reference : tie.Need-cast-reference Inv-loop μ-loop
 cast-reference c = search needs
 
-find-linked-requires : tie.Need-find-linked-requires Inv-loop μ-loop
-find-linked-requires c κs = c .before .before .before .before .before .before .before .before .before .pre .0
+reach-requires : tie.Need-reach-requires Inv-loop μ-loop
+reach-requires c κs = (c .before .before .before .before .before .before .before .before .before .pre .0, suc-ne-zero 24, suc-ne-zero 25)
 
-enum-known-offset : tie.Need-enum-known-offset Inv-loop μ-loop
-enum-known-offset c = search needs
-
-enum-told : tie.Need-enum-told Inv-loop μ-loop
-enum-told c = search needs
+stopped-requires-2 : tie.Need-stopped-requires-2 Inv-loop μ-loop
+stopped-requires-2 c κs = search needs
 
 same-length-2 : tie.Need-same-length-2 Inv-loop μ-loop
-same-length-2 c = c .before .before .before .before .before .before .before .before .loop .inv .long
+same-length-2 c = c .before .before .before .before .before .before .before .before .before .loop .inv .long
 
 returns-2 : tie.Need-returns-2 Inv-loop μ-loop
-returns-2 c = Steps.taken-fault _ _ _ _ _ _ _ _ _ (c .before .before .before .before .before .before .before .before .loop .inv) (c .before .before .before .before .before .before .if1 .taken) (c .before .before .before .before .before .if2 .left)
-    (Tables.block-absent _ _ _ (Tables.linked-nothing _ _ _ (rw (c .before .before .before .read16 .ensures .is) at (c .before .before .find-linked .ensures)) _ (c .enum-told .given .1)))
-
-same-length-3 : tie.Need-same-length-3 Inv-loop μ-loop
-same-length-3 c = c .before .before .before .before .before .before .before .before .before .before .loop .inv .long
-
-returns-3 : tie.Need-returns-3 Inv-loop μ-loop
-returns-3 c = Steps.taken-fault _ _ _ _ _ _ _ _ _ (c .before .before .before .before .before .before .before .before .before .before .loop .inv) (c .before .before .before .before .before .before .before .before .if1 .taken) (c .before .before .before .before .before .before .before .if2 .left)
-    (Tables.block-short _ _ _ _ _ (there (c .before)) (rw (c .before .before .before .before .before .before .share-of .ensures) at (c .if3 .taken)))
+returns-2 c = rw (c .stopped2 .ensures) (Steps.taken-fault _ _ _ _ _ _ _ _ _ (c .before .before .before .before .before .before .before .before .before .loop .inv) (c .before .before .before .before .before .before .before .if1 .taken) (c .before .before .before .before .before .before .if2 .left) _ (reached (c .before .before .before) .fault-is) (c .before .if3 .taken))
 
 sub-write-bytes : tie.Need-sub-write-bytes Inv-loop μ-loop
-sub-write-bytes c = omega (arith, c .before .before .before .before .before .before .before .before .before .before .before .before .loop .inv .less)
+sub-write-bytes c = omega (arith, c .before .before .before .before .before .before .before .before .before .before .loop .inv .less)
 
 part-requires : tie.Need-part-requires Inv-loop μ-loop
 part-requires c κs = search needs
@@ -81,24 +78,29 @@ write-bytes-requires : tie.Need-write-bytes-requires Inv-loop μ-loop
 write-bytes-requires c κs = search needs
 
 sub-left : tie.Need-sub-left Inv-loop μ-loop
-sub-left c = rw (c .before .before .before .before .before .before .before .before .before .before .before .before .share-of .ensures) (Walks.share-less _ _ _)
+sub-left c = rw (c .before .before .before .before .before .before .before .before .before .before .share-of .ensures) (Walks.share-less _ _ _)
 
 add-entry : tie.Need-add-entry Inv-loop μ-loop
-add-entry c = omega (arith, c .before .before .before .before .before .before .before .before .before .before .before .before .before .before .if1 .taken, c .before .before .before .before .before .before .before .before .before .before .before .before .before .before .before .before .before .before .before .before .pre .1 .entries)
+add-entry c = omega (arith, c .before .before .before .before .before .before .before .before .before .before .before .before .if1 .taken, c .before .before .before .before .before .before .before .before .before .before .before .before .before .before .before .before .before .before .pre .1 .entries)
 
 loop-less : tie.Need-loop-less Inv-loop μ-loop
-loop-less c = omega (arith, c .before .before .before .before .before .before .before .before .before .before .before .before .before .before .if1 .taken)
+loop-less c = omega (arith, c .before .before .before .before .before .before .before .before .before .before .before .before .if1 .taken)
 
 loop-again : tie.Need-loop-again Inv-loop μ-loop
 loop-again c =
-    rw (c .before .before .write-bytes .ensures, c .before .before .before .part .ensures, c .before .before .before .before .before .before .before .before .before .before .before .before .share-of .ensures)
-    (Steps.taking-next _ _ _ _ _ _ _ _ _ (c .before .before .before .before .before .before .before .before .before .before .before .before .before .before .before .before .loop .inv) (c .before .before .before .before .before .before .before .before .before .before .before .before .before .before .if1 .taken) (c .before .before .before .before .before .before .before .before .before .before .before .before .before .if2 .left) _ _ (there (c .before .before .before .before .before .before .before)) (rw (c .before .before .before .before .before .before .before .before .before .before .before .before .share-of .ensures) at (c .before .before .before .before .before .before .if3 .left)))
+    let block = reached (c .before .before .before .before .before .before .before .before) in
+    let sound = c .before .before .before .before .before .before .if3 .left in
+    rw (c .before .before .write-bytes .ensures, c .before .before .before .part .ensures, c .before .before .before .before .before .before .before .before .before .before .share-of .ensures)
+    (Steps.taking-next _ _ _ _ _ _ _ _ _ (c .before .before .before .before .before .before .before .before .before .before .before .before .before .before .loop .inv) (c .before .before .before .before .before .before .before .before .before .before .before .before .if1 .taken) (c .before .before .before .before .before .before .before .before .before .before .before .if2 .left) (sym (block .fault-is) ∙ sound) _ _ (block .there sound) (block .enough sound))
 
-same-length-4 : tie.Need-same-length-4 Inv-loop μ-loop
-same-length-4 c = c .before .before .loop .inv .long
+stopped-requires-3 : tie.Need-stopped-requires-3 Inv-loop μ-loop
+stopped-requires-3 c κs = search needs
 
-returns-4 : tie.Need-returns-4 Inv-loop μ-loop
-returns-4 c = Steps.taken-all _ _ _ _ _ _ _ _ _ (c .before .before .loop .inv) (c .if1 .left)
+same-length-3 : tie.Need-same-length-3 Inv-loop μ-loop
+same-length-3 c = c .before .before .before .loop .inv .long
+
+returns-3 : tie.Need-returns-3 Inv-loop μ-loop
+returns-3 c = rw (c .stopped3 .ensures) (Steps.taken-all _ _ _ _ _ _ _ _ _ (c .before .before .before .loop .inv) (c .before .if1 .left))
 
 pub take-blocks-spec : {M : Type 1} → statement M
 take-blocks-spec =
@@ -107,21 +109,19 @@ take-blocks-spec =
     Inv-loop
     μ-loop
     loop-holds
+    stopped-requires
     same-length
     returns
-    add-share-of
+    add-index
     share-of-requires
     mul-read16
     add-read16
     read16-requires
     cast-reference
-    find-linked-requires
-    enum-known-offset
-    enum-told
+    reach-requires
+    stopped-requires-2
     same-length-2
     returns-2
-    same-length-3
-    returns-3
     sub-write-bytes
     part-requires
     write-bytes-requires
@@ -129,5 +129,6 @@ take-blocks-spec =
     add-entry
     loop-less
     loop-again
-    same-length-4
-    returns-4)
+    stopped-requires-3
+    same-length-3
+    returns-3)
