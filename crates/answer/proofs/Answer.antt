@@ -86,29 +86,20 @@ carrying-zero k r = ap (λ l. refusalWith l (r .number) (r .place)) (carried-zer
 
 -- ---- The shape of answers
 
-proper-granted : (values given : List ℕ) → ProperWith values (grant given)
-proper-granted values given = record { granted = λ e. refl; refused = λ z. absurd (z refl) }
-
-proper-refused : (values : List ℕ) (n p : ℕ) → (n ≡ 0 → ⊥) → ProperWith values (refuseWith values n p)
-proper-refused values n p z = record { granted = λ e. absurd (z e); refused = λ h. refl }
-
-proper-unlessWith : (values : List ℕ) (n place : ℕ) (answer : Answer) → ProperWith values answer → ProperWith values (unlessWith values n place answer)
-unfolding unlessWith
-proper-unlessWith values zero place answer h = h
-proper-unlessWith values (suc n) place answer h = proper-refused values (suc n) place (suc-ne-zero n)
-
 module _ (k : ℕ) where
   pub proper-grant : (values : List ℕ) → Proper k (grant values)
-  proper-grant values = proper-granted (replicate k 0) values
+  proper-grant values = record { granted = λ e. refl; refused = λ z. absurd (z refl) }
 
   pub proper-refuse : (n p : ℕ) → (n ≡ 0 → ⊥) → Proper k (refuse k n p)
-  proper-refuse n p z = proper-refused (replicate k 0) n p z
+  proper-refuse n p z = record { granted = λ e. absurd (z e); refused = λ h. refl }
 
   pub proper-refusal : (r : Refusal) → (r .number ≡ 0 → ⊥) → Proper k (refusal k r)
   proper-refusal r z = rw (refusal-is k r z) (proper-refuse (r .number) (r .place) z)
 
   pub proper-unless : (n place : ℕ) (answer : Answer) → Proper k answer → Proper k (unless k n place answer)
-  proper-unless n place answer h = proper-unlessWith (replicate k 0) n place answer h
+  unfolding unlessWith
+  proper-unless zero place answer h = h
+  proper-unless (suc n) place answer h = proper-refuse (suc n) place (suc-ne-zero n)
 
   pub proper-room : (enough : Bool) (answer : Answer) → Proper k answer → Proper k (inRoom k enough answer)
   unfolding inRoom

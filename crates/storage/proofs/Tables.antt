@@ -21,7 +21,7 @@ use Rattle.directory.proofs.Opens.{opened-find}
 use Rattle.storage.specs.Limits.{linked-tag}
 use Rattle.storage.specs.Elements.{plainOnly, locatedAt, bytesAt}
 use Rattle.storage.specs.Tables.{nextOf, tablesAfter, linkedAt, isThere, linkedBytes, nextTable, linkFault, tableFault, blockBytes}
-use Rattle.storage.specs.Steps.{There, Reaches, nextFault}
+use Rattle.storage.specs.Steps.{There, LookedUp, nextFault}
 use Rattle.storage.specs.declared.element.Element.the-variants.{Absent}
 use Rattle.storage.specs.declared.element.Located.{Located}
 use Rattle.storage.specs.declared.element.Located.the-variants.{Plain, Refused}
@@ -93,13 +93,13 @@ module _ (s : List ℕ) (d : Description) (before : List ℕ) (ref : ℕ) where
 -- ---- One that is looked up
 
 module _ (s : List ℕ) (ref fault needed : ℕ) where
-  pub reaches-broken : (r : Link) (n : ℕ) → r ≡ record { fault = n; offset = 0; length = 0 } → fault ≡ n → (n ≡ 0 → ⊥) → Reaches s ref fault needed r
-  reaches-broken r n is e z =
+  pub looked-broken : (r : Link) (n : ℕ) → r ≡ record { fault = n; offset = 0; length = 0 } → fault ≡ n → (n ≡ 0 → ⊥) → LookedUp s ref fault needed r
+  looked-broken r n is e z =
       let f : r .fault ≡ n = ap (λ x. x .fault) is in
       record { fault-is = f ∙ sym e; there = λ q. absurd (z (sym f ∙ q)); enough = λ q. absurd (z (sym f ∙ q)); nowhere = λ q. ap (λ x. x .length) is }
 
-  pub reaches-there : (offset size : ℕ) → There s ref offset size → needed ≤ size → fault ≡ 0 → Reaches s ref fault needed (record { fault = 0; offset = offset; length = size })
-  reaches-there offset size t h e = record { fault-is = sym e; there = λ q. t; enough = λ q. h; nowhere = λ q. absurd (q refl) }
+  pub looked-there : (offset size : ℕ) → There s ref offset size → needed ≤ size → fault ≡ 0 → LookedUp s ref fault needed (record { fault = 0; offset = offset; length = size })
+  looked-there offset size t h e = record { fault-is = sym e; there = λ q. t; enough = λ q. h; nowhere = λ q. absurd (q refl) }
 
 -- one that is not there has no bytes, and is the only one of which none are needed that breaks a rule
 gone-bytes : (s : List ℕ) (ref absent short : ℕ) → (linkFault s ref 0 absent short ≡ 0 → ⊥) → linkedBytes s ref ≡ []
@@ -111,9 +111,9 @@ gone-bytes s ref absent short z = go (linkedAt s ref) refl
     go (Plain p offset size) e = absurd (z (pass _ _ _ (ap isThere e) (pass _ _ _ (le-leb 0 (length (linkedBytes s ref)) (omega arith)) refl)))
 
 -- the table that it names next, where it is one
-pub reaches-next : (s : List ℕ) (ref absent short : ℕ) (r : Link) → Reaches s ref (linkFault s ref 0 absent short) 0 r → nextTable (part s (r .offset) (r .length)) ≡ nextOf s ref
+pub looked-next : (s : List ℕ) (ref absent short : ℕ) (r : Link) → LookedUp s ref (linkFault s ref 0 absent short) 0 r → nextTable (part s (r .offset) (r .length)) ≡ nextOf s ref
 unfolding part
-reaches-next s ref absent short r h =
+looked-next s ref absent short r h =
     elim (same? (r .fault) 0) [
       | inl e ↦ ap nextTable (sym (h .there e .bytes))
       | inr z ↦

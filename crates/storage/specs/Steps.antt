@@ -34,7 +34,7 @@ pub record There (s : List ℕ) (ref offset size : ℕ) : Type 0 where
 
 -- a table or block of which so many bytes are needed, looked up: the number of the first rule that it breaks, and where it stands where it breaks
 -- none
-pub record Reaches (s : List ℕ) (ref fault needed : ℕ) (r : Link) : Type 0 where
+pub record LookedUp (s : List ℕ) (ref fault needed : ℕ) (r : Link) : Type 0 where
   pub fault-is : r .fault ≡ fault
   pub there : r .fault ≡ 0 → There s ref (r .offset) (r .length)
   pub enough : r .fault ≡ 0 → needed ≤ r .length

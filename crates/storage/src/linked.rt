@@ -23,7 +23,7 @@ ghost use Rattle.storage.specs.Descriptions.{recordFault};
 ghost use Rattle.storage.specs.Tables.{nextOf, tablesAfter, linkedAt, linkFault};
 ghost use Rattle.storage.specs.Walks.{share, blocksFrom, chainOf};
 ghost use Rattle.directory.specs.Steps.Opens.{Opens};
-ghost use Rattle.storage.specs.Steps.{InRange, Describes, Reaches, nextFault, Marked, Reached, Took};
+ghost use Rattle.storage.specs.Steps.{InRange, Describes, LookedUp, nextFault, Marked, Reached, Took};
 
 // How many marks the tables of a chain share. A prime, so that references that ascend by the same step have marks of their own.
 const MARKS: usize = 251;
@@ -130,7 +130,7 @@ fn reach(
     short: usize,
 ) -> Link
     requires { ⌜ Opens (now image) blocks × (absent ≡ 0 → ⊥) × (short ≡ 0 → ⊥) ⌝ }
-    ensures { λ r. ⌜ Reaches (now (image .entry)) reference (linkFault (now (image .entry)) reference needed absent short) needed r ⌝ }
+    ensures { λ r. ⌜ LookedUp (now (image .entry)) reference (linkFault (now (image .entry)) reference needed absent short) needed r ⌝ }
 {
     let Located::Plain {
         slot: _,
@@ -222,7 +222,7 @@ fn reach_table(
     reference: u16,
 ) -> Link
     requires { ⌜ Opens (now image) blocks × InRange d × Marked (now image) (d .table) count (now marks) ⌝ }
-    ensures { λ r. ⌜ Reaches (now (image .entry)) reference (nextFault (now (image .entry)) d count reference) (2 + 2 * d .entries) r ⌝ }
+    ensures { λ r. ⌜ LookedUp (now (image .entry)) reference (nextFault (now (image .entry)) d count reference) (2 + 2 * d .entries) r ⌝ }
 {
     if count == MOST_TABLES {
         return broken(TABLE_LOOP);

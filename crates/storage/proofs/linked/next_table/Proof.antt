@@ -20,7 +20,7 @@ cast-result : tie.Need-cast-result
 cast-result c = search needs
 
 returns : tie.Need-returns
-returns c = c .read16 .ensures .is ∙ ap nextTable (c .before .part .ensures) ∙ Tables.reaches-next _ _ _ _ _ (c .before .before .reach .ensures)
+returns c = c .read16 .ensures .is ∙ ap nextTable (c .before .part .ensures) ∙ Tables.looked-next _ _ _ _ _ (c .before .before .reach .ensures)
 
 pub next-table-spec : {M : Type 1} → statement M
 next-table-spec = tie.close (tie.spec reach-requires part-requires read16-requires cast-result returns)

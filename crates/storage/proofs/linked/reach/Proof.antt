@@ -21,16 +21,16 @@ broken-requires : tie.Need-broken-requires
 broken-requires c κs = search needs
 
 returns : tie.Need-returns
-returns c = Tables.reaches-broken _ _ _ _ _ _ (c .broken .ensures) (Tables.link-absent _ _ _ _ _ (Tables.linked-nothing _ _ _ (c .before .before .before .find-linked .ensures) _ (c .before .enum-told .given .1))) (c .before .before .before .before .before .pre .1)
+returns c = Tables.looked-broken _ _ _ _ _ _ (c .broken .ensures) (Tables.link-absent _ _ _ _ _ (Tables.linked-nothing _ _ _ (c .before .before .before .find-linked .ensures) _ (c .before .enum-told .given .1))) (c .before .before .before .before .before .pre .1)
 
 broken-requires-2 : tie.Need-broken-requires-2
 broken-requires-2 c κs = search needs
 
 returns-2 : tie.Need-returns-2
-returns-2 c = Tables.reaches-broken _ _ _ _ _ _ (c .broken2 .ensures) (Tables.link-short _ _ _ _ _ _ _ (there (c .before .before)) (c .before .if1 .taken)) (c .before .before .before .before .before .before .before .pre .2)
+returns-2 c = Tables.looked-broken _ _ _ _ _ _ (c .broken2 .ensures) (Tables.link-short _ _ _ _ _ _ _ (there (c .before .before)) (c .before .if1 .taken)) (c .before .before .before .before .before .before .before .pre .2)
 
 returns-3 : tie.Need-returns-3
-returns-3 c = Tables.reaches-there _ _ _ _ _ _ (there (c .before)) (c .if1 .left) (Tables.link-none _ _ _ _ _ _ _ (there (c .before)) (c .if1 .left))
+returns-3 c = Tables.looked-there _ _ _ _ _ _ (there (c .before)) (c .if1 .left) (Tables.link-none _ _ _ _ _ _ _ (there (c .before)) (c .if1 .left))
 
 pub reach-spec : {M : Type 1} → statement M
 reach-spec =

@@ -11,7 +11,7 @@ broken-requires : tie.Need-broken-requires
 broken-requires c κs = search needs
 
 returns : tie.Need-returns
-returns c = Tables.reaches-broken _ _ _ _ _ _ (c .broken .ensures) (Tables.next-many _ _ _ _ (c .before .if1 .taken)) (suc-ne-zero 26)
+returns c = Tables.looked-broken _ _ _ _ _ _ (c .broken .ensures) (Tables.next-many _ _ _ _ (c .before .if1 .taken)) (suc-ne-zero 26)
 
 seen-requires : tie.Need-seen-requires
 seen-requires c κs = (c .before .before .pre .0, c .before .before .pre .2)
@@ -20,7 +20,7 @@ broken-requires-2 : tie.Need-broken-requires-2
 broken-requires-2 c κs = search needs
 
 returns-2 : tie.Need-returns-2
-returns-2 c = Tables.reaches-broken _ _ _ _ _ _ (c .broken2 .ensures) (Tables.next-twice _ _ _ _ (c .before .before .before .if1 .left) (sym (c .before .before .seen .ensures) ∙ c .before .if2 .taken)) (suc-ne-zero 26)
+returns-2 c = Tables.looked-broken _ _ _ _ _ _ (c .broken2 .ensures) (Tables.next-twice _ _ _ _ (c .before .before .before .if1 .left) (sym (c .before .before .seen .ensures) ∙ c .before .if2 .taken)) (suc-ne-zero 26)
 
 mul-reach : tie.Need-mul-reach
 mul-reach c = omega (arith, c .before .before .before .before .before .pre .1 .entries)

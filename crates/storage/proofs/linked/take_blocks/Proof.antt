@@ -6,7 +6,7 @@ use native.Mathlib.Omega.{arith}
 use mathlib.Core.Path.{sym, _∙_}
 use Rattle.storage.specs.Tables.{blockRef, linkedBlockFault}
 use Rattle.storage.specs.Walks.{share}
-use Rattle.storage.specs.Steps.{Reaches}
+use Rattle.storage.specs.Steps.{LookedUp}
 use Rattle.storage.proofs.Walks
 use Rattle.storage.proofs.Steps
 use borrow.Author.Needs.{needs}
@@ -22,7 +22,7 @@ abbrev μ-loop : tie.MeasureT-loop
 -- the block that the entry names
 reached : (c : tie.After-reach Inv-loop μ-loop) → let l = c .before .before .before .before .before .before .loop in let a = c .before .before .before .before .before .before .before .before .before .before .args in
     let n = share (a .d) (a .first + l .entry) (l .left) in let ref = blockRef (a .table .now) (l .entry) in
-    Reaches (a .image .now) ref (linkedBlockFault (a .image .now) ref n) n (c .reach .result)
+    LookedUp (a .image .now) ref (linkedBlockFault (a .image .now) ref n) n (c .reach .result)
 unfolding linkedBlockFault
 reached c = rw (c .before .read16 .ensures .is, c .before .before .share-of .ensures) at (c .reach .ensures)
 
