@@ -22,10 +22,10 @@ extern "C" {
 #endif
 
 /* The version of the library that this header is of. */
-#define HDF4_VERSION "0.2.0"
+#define HDF4_VERSION "0.2.1"
 #define HDF4_VERSION_MAJOR 0
 #define HDF4_VERSION_MINOR 2
-#define HDF4_VERSION_PATCH 0
+#define HDF4_VERSION_PATCH 1
 
 /* The most bytes that an image has. */
 #define HDF4_MOST_BYTES 2147483647
@@ -68,7 +68,7 @@ enum hdf4_refusal {
     HDF4_DEEP = 22,        /* groups are nested past 16; the place is the slot of the 16th */
     HDF4_NO_TABLE = 23,    /* a table of the element's linked blocks is absent or extended, or its reference is 0; the index is the table's */
     HDF4_SHORT_TABLE = 24, /* a table of the element's linked blocks has too few bytes for its entries; the index is the table's */
-    HDF4_NO_BLOCK = 25,    /* a linked block is absent or extended, or its reference is 0; the index is the block's, through the whole element */
+    HDF4_NO_BLOCK = 25,    /* a linked block is absent or extended, or its reference is 0 by a record of 22 bytes; the index is the block's, through the whole element */
     HDF4_SHORT_BLOCK = 26, /* a linked block has fewer bytes than are taken from it; the index is the block's, through the whole element */
     HDF4_TABLE_LOOP = 27   /* a table of the element's linked blocks is one already walked, or a 257th; the index is the table's */
 };
@@ -183,6 +183,13 @@ typedef struct {
     uint64_t offset; /* where the part starts in the image, 0 where the element has no bytes */
     uint64_t length; /* bytes of the element */
 } hdf4_view_answer;
+
+/* How many bytes a copy of an element has. */
+typedef struct {
+    uint64_t number;
+    uint64_t place;
+    uint64_t length; /* bytes of the element */
+} hdf4_size_answer;
 
 /* What was copied. */
 typedef struct {
@@ -317,9 +324,13 @@ hdf4_list_answer hdf4_list(const uint8_t *image, size_t n, uint32_t *table, size
 /* Finds an element's own part of the image. The element is plain: an extended one is refused at its slot. */
 hdf4_view_answer hdf4_view(const uint8_t *image, size_t n, uint16_t tag, uint16_t ref);
 
-/* Copies an element's bytes to the front of a lent output; the rest of it stays as it was. The element is plain or of linked blocks.
- * Where a table or a block is broken the refusal says which: its place is the element's slot, and its index that of the first one that a
- * walk meets. The output may not lie in the image. */
+/* Tells how many bytes hdf4_copy would write, and so how long its output must be. The element is plain or of linked blocks; their record
+ * is judged, and their tables and blocks are not: hdf4_copy may still refuse these. */
+hdf4_size_answer hdf4_size(const uint8_t *image, size_t n, uint16_t tag, uint16_t ref);
+
+/* Copies an element's bytes to the front of a lent output; the rest of it stays as it was. The element is plain or of linked blocks, of
+ * which one that was never written reads as zeros. Where a table or a block is broken the refusal says which: its place is the element's
+ * slot, and its index that of the first one that a walk meets. The output may not lie in the image. */
 hdf4_copy_answer hdf4_copy(const uint8_t *image, size_t n, uint16_t tag, uint16_t ref, uint8_t *out, size_t room);
 
 /* Finds an element's own part of the current image or, where that has no such element, of the fallback. Both must open, and the element

@@ -7,7 +7,7 @@ use crate::print::Print;
 use crate::text::shown;
 use crate::words::{pair, unsigned, Pair, Words};
 use crate::{links, miscounted, output};
-use hdf4::{CopyError, Error, Rule};
+use hdf4::{Error, Rule};
 use std::borrow::Cow;
 
 /// The most bytes of an element that room is made for, if its file is not longer and the user names no other number.
@@ -46,26 +46,20 @@ pub fn element(file: &Input, (tag, reference): Pair, most: Option<usize>) -> Res
     }
 }
 
-/// The bytes of a linked element. It may be longer than the file, where blocks are named twice: the room grows until it fits, but
-/// not without end for a small file.
+/// The bytes of a linked element. It may be longer than its file, where blocks are named twice or were never written, so that
+/// there is a limit to the room that is made for it.
 fn linked(file: &Input, (tag, reference): Pair, most: Option<usize>) -> Result<Vec<u8>, Fault> {
-    let most = most.unwrap_or(MOST_ROOM.max(file.bytes.len()));
-    let mut room = most.min(file.bytes.len());
-    loop {
-        let mut bytes = Vec::new();
-        input::reserve(&file.name, &mut bytes, room)?;
-        bytes.resize(room, 0);
-        match hdf4::copy(&file.bytes, tag, reference, &mut bytes) {
-            Err(CopyError { rule: Rule::Small, .. }) if room < most => room = most.min(2 * room),
-            Err(e @ CopyError { rule: Rule::Small, .. }) => {
-                return Err(file.refused(format_args!("{e}; the element has more than {most} bytes, see --most")))
-            }
-            copied => {
-                bytes.truncate(copied.map_err(|e| file.refused(links::told(file, (tag, reference), e)))?);
-                return Ok(bytes);
-            }
-        }
+    let size = hdf4::size(&file.bytes, tag, reference).map_err(|e| file.refused(e))?;
+    if size > most.unwrap_or(MOST_ROOM.max(file.bytes.len())) {
+        let small = Error { rule: Rule::Small, place: 0 };
+        return Err(file.refused(format_args!("{small}; the element has {size} bytes, see --most")));
     }
+    let mut bytes = Vec::new();
+    input::reserve(&file.name, &mut bytes, size)?;
+    bytes.resize(size, 0);
+    let copied = hdf4::copy(&file.bytes, tag, reference, &mut bytes);
+    copied.map_err(|e| file.refused(links::told(file, (tag, reference), e)))?;
+    Ok(bytes)
 }
 
 /// Lines of 16 bytes: where they start, the bytes in hexadecimal digits, and those that are printable.

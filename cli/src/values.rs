@@ -109,8 +109,15 @@ impl<'a> Table<'a> {
     }
 
     fn value(&self, record: usize, index: usize, component: usize) -> Result<Value, Fault> {
-        let value = hdf4::read_value(&self.image, self.reference, record, index, component);
-        value.map_err(|e| self.file.refused(format_args!("Vdata {}: {e}", self.reference)))
+        hdf4::read_value(&self.image, self.reference, record, index, component).map_err(|e| self.refused(e))
+    }
+
+    /// Values that are refused. Where they are in linked blocks, it is said how to get at their bytes.
+    fn refused(&self, e: Error) -> Fault {
+        let Table { file, reference, .. } = self;
+        let is_linked = e.rule == Rule::Storage && hdf4::size(&file.bytes, VALUES, *reference).is_ok();
+        let way = format!("; the values are in linked blocks, and hdf4 read FILE {VALUES} {reference} gives their bytes");
+        file.refused(format_args!("Vdata {reference}: {e}{}", if is_linked { &way } else { "" }))
     }
 
     /// The values of one field in one record.

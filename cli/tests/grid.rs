@@ -227,6 +227,21 @@ fn linked_data_are_read() {
 }
 
 #[test]
+fn arrays_that_grew_in_turn_are_read() {
+    let path = file("cleared_unlimited.hdf");
+    for (array, by_group, by_data) in [(0, "2", "4"), (1, "3", "5")] {
+        // Every second row was written, and libhdf4 filled in the others.
+        let number = |row: usize, column: usize| if row % 2 == array { sample(row + 2 * column, 2) as i16 } else { -32767 };
+        let line = |row: usize| joined((0..5).map(|column| number(row, column)), " ") + "\n";
+        let expected: String = (0..11 + array).map(line).collect();
+        assert_eq!(granted(&["grid", &path, by_group]), expected);
+        assert_eq!(granted(&["grid", &path, by_data]), expected);
+    }
+    let message = refused(&["grid", "--most", "100", &path, "2"]);
+    assert!(message.contains("SMALL") && message.contains("; the element has 110 bytes, see --most"), "{message}");
+}
+
+#[test]
 fn refusals_name_their_rule() {
     let folder = Folder::new("refusals");
     let refused_file = |bytes: &[u8]| refused(&["grid", text(&folder.holding("file.hdf", bytes)), "2"]);

@@ -2,7 +2,7 @@
 
 mod common;
 
-use common::files::{file_of, linked_record, shorts};
+use common::files::{file_of, linked_record, shorts, sparse_record};
 use common::{granted_bytes, refused, text, Folder};
 
 /// Tag, reference and bytes of an element.
@@ -103,6 +103,35 @@ fn a_short_block_is_named_with_its_bytes() {
         (|parts| parts[BLOCK_3].2.truncate(2), "block 3 (reference 14) is too short: it has 2 of the 3 bytes that are needed"),
     ];
     compare_all(("SHORT_BLOCK", 26), &cases);
+}
+
+/// The grid with a sparse record, its block 2 never written.
+fn sparse_grid() -> Vec<Part> {
+    let mut parts = grid();
+    parts[RECORD].2 = sparse_record([17, 5, 2], 1);
+    parts[TABLE_1].2 = shorts(&[0, 0, 14]);
+    parts
+}
+
+#[test]
+fn a_block_that_was_never_written_is_no_fault() {
+    let folder = Folder::new("sparse");
+    assert_eq!(granted_bytes(&["read", &holding(&folder, &sparse_grid()), "702", "7"]), b"pass road\0\0\0\0\0 up");
+    let compare_changed = |rule, change: fn(&mut [Part]), broken| {
+        let mut parts = sparse_grid();
+        change(&mut parts);
+        compare(&folder, &parts, rule, broken);
+    };
+    let no_table = "table 1 (reference 0) is missing: reference 0 names none";
+    compare_changed(("NO_TABLE", 23), |parts| parts[TABLE_0].2 = shorts(&[0, 11, 12]), no_table);
+    compare_changed(("NO_BLOCK", 25), |parts| parts[BLOCK_0].1 = 9, "block 0 (reference 11) is not in the file");
+    compare_changed(("NO_BLOCK", 25), |parts| parts[BLOCK_3].1 = 9, "block 3 (reference 14) is not in the file");
+    let short = "block 3 (reference 14) is too short: it has 2 of the 3 bytes that are needed";
+    compare_changed(("SHORT_BLOCK", 26), |parts| parts[BLOCK_3].2.truncate(2), short);
+    // Block 0 gives what it has: where that is less, more is needed of the last one.
+    let shorter = "block 3 (reference 14) is too short: it has 3 of the 4 bytes that are needed";
+    let shorten = |parts: &mut [Part]| [BLOCK_0, BLOCK_3].iter().for_each(|block| parts[*block].2.truncate(3));
+    compare_changed(("SHORT_BLOCK", 26), shorten, shorter);
 }
 
 #[test]

@@ -2,6 +2,7 @@
 
 mod common;
 
+use common::files::{sample, sample_byte};
 use common::{failed, file, granted, granted_bytes, misused, refused, text, Folder};
 use std::fs;
 
@@ -65,6 +66,25 @@ fn a_linked_element_is_read_whole() {
     broken[49] = 3;
     let path = folder.holding("other.hdf", &broken);
     assert!(refused(&["read", text(&path), "100", "1"]).contains("(number 12, place 10)"));
+}
+
+/// The first samples, so many of them.
+fn samples(count: usize) -> Vec<u8> {
+    (0..count).map(sample_byte).collect()
+}
+
+#[test]
+fn linked_elements_that_libhdf4_wrote_are_read_whole() {
+    let read = |name: &str, tag: &str, reference: &str| granted_bytes(&["read", &file(name), tag, reference]);
+    assert_eq!(read("linked.hdf", "1000", "1"), samples(150));
+    // Elements that were plain, and grew.
+    assert_eq!(read("linked.hdf", "1001", "1"), [samples(10), samples(30)].concat());
+    assert_eq!(read("appended.hdf", "1100", "1"), [samples(10), samples(40)].concat());
+    // Blocks that were never written are zeros.
+    assert_eq!(read("linked_holes.hdf", "1000", "1"), [samples(10), vec![0; 90], samples(10)].concat());
+    // Records of three numbers: seven, of which the last was written over by the first of nine more.
+    let numbers = (0..18).chain(0..27).map(|index| sample(4 * index, 4) as u32);
+    assert_eq!(read("vdata_appended.hdf", "1963", "2"), numbers.flat_map(u32::to_be_bytes).collect::<Vec<u8>>());
 }
 
 #[test]

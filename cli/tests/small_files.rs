@@ -2,7 +2,7 @@
 
 mod common;
 
-use common::files::linked_record;
+use common::files::{linked_record, sparse_record};
 use common::terminal::on_a_terminal;
 use common::{granted, program, refused, text, Folder};
 use std::fs::{self, File};
@@ -103,23 +103,30 @@ fn linked_file() -> Vec<u8> {
     file_of(&[(16384 + 100, 1, &record), (20, 1, &table), (20, 2, &block)])
 }
 
+/// A file of 54 bytes with an element of 4 GB: one block, which was never written.
+fn unwritten_file() -> Vec<u8> {
+    file_of(&[(16384 + 100, 1, &sparse_record([u32::MAX, u32::MAX, 1], 1)), (20, 1, &[0; 4])])
+}
+
 #[test]
 fn a_small_file_with_a_huge_element_takes_little_memory() {
     let folder = Folder::new("linked");
-    let bytes = linked_file();
-    assert!(bytes.len() < 200_000);
-    let path = folder.holding("linked.hdf", &bytes);
-    let Output { status, stderr, .. } = with_memory(400_000, &["read", text(&path), "100", "1"]).output().unwrap();
-    let message = String::from_utf8(stderr).unwrap();
-    assert_eq!(status.code(), Some(1), "{message}");
-    assert!(message.contains("SMALL") && message.contains("--most"), "{message}");
+    for (bytes, most, size) in [(linked_file(), 200_000, "4294901760"), (unwritten_file(), 54, "4294967295")] {
+        assert!(bytes.len() <= most);
+        let path = folder.holding("linked.hdf", &bytes);
+        let Output { status, stderr, .. } = with_memory(400_000, &["read", text(&path), "100", "1"]).output().unwrap();
+        let message = String::from_utf8(stderr).unwrap();
+        assert_eq!(status.code(), Some(1), "{message}");
+        let told = format!("SMALL: the output is too short (number 14, place 0); the element has {size} bytes, see --most");
+        assert!(message.contains(&told), "{message}");
 
-    let words = ["read", "--most", "4294967295", text(&path), "100", "1", "/dev/null"];
-    let Output { status, stderr, .. } = with_memory(400_000, &words).output().unwrap();
-    let message = String::from_utf8(stderr).unwrap();
-    assert_eq!(status.code(), Some(3), "{message}");
-    assert!(message.contains("there is no memory for"), "{message}");
-    assert_eq!(message.lines().count(), 1);
+        let words = ["read", "--most", "4294967295", text(&path), "100", "1", "/dev/null"];
+        let Output { status, stderr, .. } = with_memory(400_000, &words).output().unwrap();
+        let message = String::from_utf8(stderr).unwrap();
+        assert_eq!(status.code(), Some(3), "{message}");
+        assert!(message.contains(&format!("there is no memory for {size} bytes")), "{message}");
+        assert_eq!(message.lines().count(), 1);
+    }
 }
 
 #[test]

@@ -47,14 +47,19 @@ fn values_of_each_type_are_printed() {
     assert_eq!(floats, (0..4).map(|record| sample(8 * record, 8)).collect::<Vec<u64>>());
 }
 
-#[test]
-fn values_are_printed_alike_by_record_and_by_field() {
-    let path = file("vdata_interlaces.hdf");
+/// The lines of a Vdata of roads that has these records of the samples.
+fn roads(records: impl Iterator<Item = usize>) -> String {
     let line = |record: usize| {
         let number = |field: usize| sample(12 * record + 4 * field, 4);
         format!("{}\t{}\t{}\n", number(0), number(1), number(2))
     };
-    let expected = format!("row\tcol\troad\n{}", (0..7).map(line).collect::<String>());
+    format!("row\tcol\troad\n{}", records.map(line).collect::<String>())
+}
+
+#[test]
+fn values_are_printed_alike_by_record_and_by_field() {
+    let path = file("vdata_interlaces.hdf");
+    let expected = roads(0..7);
     for word in ["2", "0x3", "by record", "by field"] {
         assert_eq!(granted(&["values", &path, word]), expected, "{word}");
     }
@@ -196,6 +201,21 @@ fn shortened(folder: &Folder) -> String {
     image[33] -= 1;
     fs::write(&path, image).unwrap();
     text(&path).to_string()
+}
+
+/// Values in linked blocks are refused with the command that gives their bytes; stored plainly, they are printed.
+#[test]
+fn values_in_linked_blocks_are_got_at() {
+    let folder = Folder::new("linked");
+    let path = folder.copy_of("vdata_appended.hdf");
+    let path = text(&path);
+    let rule = "STORAGE: the element is stored in a way that is not read here (number 12, place 22)";
+    let way = "the values are in linked blocks, and hdf4 read FILE 1963 2 gives their bytes";
+    assert_eq!(refused(&["values", path, "growing"]), format!("hdf4: {path}: Vdata 2: {rule}; {way}\n"));
+    let values = folder.word("values");
+    granted(&["read", path, "1963", "2", &values]);
+    granted(&["replace", path, "1963", "2", &values]);
+    assert_eq!(granted(&["values", path, "growing"]), roads((0..6).chain(0..9)));
 }
 
 #[test]

@@ -216,6 +216,88 @@ static void copying_rows(const char *folder)
     free_file(&copying.file);
 }
 
+/* ---- An element in linked blocks ---- */
+
+struct linking {
+    struct file file;
+    uint8_t *out, *room;
+    size_t length; /* of the element */
+};
+
+/* Lends exactly the room that is needed. */
+static void copy_linked(const struct linking *l, const uint8_t *image, size_t n)
+{
+    hdf4_size_answer size = hdf4_size(image, n, TAG, FIRST_REFERENCE);
+    need(size.number == 0 && size.length == l->length, "hdf4_size");
+    hdf4_copy_answer copied = hdf4_copy(image, n, TAG, FIRST_REFERENCE, l->out, size.length);
+    need(copied.number == 0 && copied.length == l->length, "hdf4_copy");
+}
+
+static void link_ours(void *context, int round)
+{
+    struct linking *l = context;
+    (void)round;
+    size_t n = read_file(l->file.path, l->room, l->file.capacity);
+    copy_linked(l, l->room, n);
+}
+
+static void link_theirs(void *context, int round)
+{
+    struct linking *l = context;
+    (void)round;
+    int32 id = Hopen(l->file.path, DFACC_READ, 0);
+    need(id != FAIL && Hgetelement(id, TAG, FIRST_REFERENCE, l->out) == (int32)l->length, "Hgetelement");
+    need(Hclose(id) != FAIL, "Hclose");
+}
+
+static void link_in_memory(void *context, int round)
+{
+    struct linking *l = context;
+    (void)round;
+    copy_linked(l, l->file.buffer, l->file.length);
+}
+
+/* Each call gives what was written. */
+static void check_linked(call *const *calls, int count, struct linking *l)
+{
+    uint8_t *written = new_contents(l->length);
+    for (int i = 0; i < count; i++) {
+        memset(l->out, 0, l->length);
+        calls[i](l, 0);
+        need(memcmp(l->out, written, l->length) == 0, "the element's own bytes");
+    }
+    free(written);
+}
+
+static void linked_row(const char *folder, const struct parts *parts)
+{
+    call *const calls[] = {link_ours, link_theirs, link_in_memory};
+    struct linking linking = {.file = make_linked_file(folder, "linked.hdf", parts)};
+    double times[COUNT(calls)];
+
+    linking.length = (size_t)parts->blocks * (size_t)parts->bytes;
+    linking.out = malloc(linking.length);
+    linking.room = malloc(linking.file.capacity);
+    need(linking.out != NULL && linking.room != NULL, "memory for an element");
+    check_linked(calls, COUNT(calls), &linking);
+    measure(calls, COUNT(calls), &linking, times);
+    printf("| %d | %d | %d | %d | %.1f | %.1f | %.2f | %.1f | %.2f | %.1f |\n", parts->blocks, parts->bytes, parts->per_table,
+           linking.file.slots, times[0], times[1], times[0] / times[1], times[2], times[2] / times[1],
+           1e3 * times[2] / parts->blocks);
+    fflush(stdout);
+    free(linking.out);
+    free(linking.room);
+    free_file(&linking.file);
+}
+
+static void linked_rows(const char *folder)
+{
+    static const struct parts rows[] = {{16, 4096, 16},   {256, 4096, 16},  {1000, 4096, 16},
+                                        {1000, 4096, 64}, {3800, 4096, 16}, {1024, 65536, 64}};
+    for (int i = 0; i < COUNT(rows); i++)
+        linked_row(folder, &rows[i]);
+}
+
 /* ---- Tables ---- */
 
 static void each_file(const char *folder, void (*row)(const struct file *, enum order))
@@ -246,5 +328,11 @@ int main(int count, char **words)
            "| | ms | against `memcpy` |\n"
            "|--|--:|--:|\n");
     copying_rows(words[1]);
+
+    printf("\n### Copy an element in linked blocks\n\n"
+           "| blocks | bytes a block | blocks a table | slots | ours, µs | libhdf4, µs | ratio | ours on bytes in memory, µs | "
+           "ratio | that a block, ns |\n"
+           "|--:|--:|--:|--:|--:|--:|--:|--:|--:|--:|\n");
+    linked_rows(words[1]);
     return 0;
 }

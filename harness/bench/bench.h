@@ -35,7 +35,7 @@ struct file {
     char path[4096];
     uint8_t *buffer;
     size_t capacity, length;
-    int slots, elements; /* the references of the elements go from FIRST_REFERENCE on, one each */
+    int slots, elements; /* the references of plain elements go from FIRST_REFERENCE on, one each */
 };
 
 /* Writes a file of plain elements with libhdf4, in blocks of so many slots. All slots but one are live. */
@@ -43,6 +43,17 @@ struct file make_file(const char *folder, const char *name, int slots, int per_b
 
 /* Writes a file of one element with libhdf4. */
 struct file make_large_file(const char *folder, const char *name, size_t size);
+
+/* How many linked blocks an element has, how many bytes each of them has, and how many of them a table names. */
+struct parts {
+    int blocks, bytes, per_table;
+};
+
+/* Writes a file of one element in linked blocks with libhdf4. */
+struct file make_linked_file(const char *folder, const char *name, const struct parts *parts);
+
+/* Gives memory with the bytes that both of these files have in their element. */
+uint8_t *new_contents(size_t size);
 
 /* Reads a whole file to the front of a buffer with one read. Gives its length. */
 size_t read_file(const char *path, uint8_t *buffer, size_t capacity);

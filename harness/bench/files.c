@@ -1,4 +1,4 @@
-/* Files of plain elements, written by libhdf4 itself. */
+/* Files of plain elements, and of one in linked blocks, written by libhdf4 itself. */
 #define _POSIX_C_SOURCE 200809L
 #include <fcntl.h>
 #include <stdio.h>
@@ -85,16 +85,38 @@ struct file make_file(const char *folder, const char *name, int slots, int per_b
     return file;
 }
 
-struct file make_large_file(const char *folder, const char *name, size_t size)
+uint8_t *new_contents(size_t size)
 {
-    struct file file = file_named(folder, name, 1);
     uint8_t *bytes = malloc(size);
     need(bytes != NULL, "memory for a large element");
     for (size_t i = 0; i < size; i++)
-        bytes[i] = (uint8_t)(i ^ (i >> 8));
+        bytes[i] = (uint8_t)(i ^ (i >> 8) ^ (i >> 16));
+    return bytes;
+}
+
+struct file make_large_file(const char *folder, const char *name, size_t size)
+{
+    struct file file = file_named(folder, name, 1);
+    uint8_t *bytes = new_contents(size);
     int32 id = Hopen(file.path, DFACC_CREATE, 0);
     need(id != FAIL && Hputelement(id, TAG, FIRST_REFERENCE, bytes, (int32)size) != FAIL, "Hputelement of a large element");
     need(Hclose(id) != FAIL, "Hclose");
+    free(bytes);
+    load(&file);
+    return file;
+}
+
+struct file make_linked_file(const char *folder, const char *name, const struct parts *parts)
+{
+    int tables = (parts->blocks + parts->per_table - 1) / parts->per_table;
+    struct file file = file_named(folder, name, 1 + tables + parts->blocks);
+    int32 size = parts->blocks * parts->bytes;
+    uint8_t *bytes = new_contents((size_t)size);
+    int32 id = Hopen(file.path, DFACC_CREATE, 0);
+    need(id != FAIL, "Hopen for a new file");
+    int32 element = HLcreate(id, TAG, FIRST_REFERENCE, parts->bytes, parts->per_table);
+    need(element != FAIL && Hwrite(element, size, bytes) == size, "Hwrite to linked blocks");
+    need(Hendaccess(element) != FAIL && Hclose(id) != FAIL, "Hclose");
     free(bytes);
     load(&file);
     return file;

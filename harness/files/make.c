@@ -1,6 +1,6 @@
 /* Writes the real files of this folder with the HDF4 library: one small file for each way of storing something.
  *
- *     cc make.c -I/usr/include/hdf -lmfhdf -ldf -ljpeg -lz -lm -o make
+ *     cc make.c linked.c contents.c -I/usr/include/hdf -lmfhdf -ldf -ljpeg -lz -lm -o make
  *     ./make FOLDER
  */
 
@@ -9,17 +9,12 @@
 #include <string.h>
 #include <unistd.h>
 
-#include "hdf.h"
-#include "mfhdf.h"
+#include "make.h"
 
-#define COUNT(list) ((int)(sizeof(list) / sizeof((list)[0])))
-#define NEED(call) need((long)(call), #call, __LINE__)
-
-/* Every call of the library that can fail answers -1 then. */
-static int32 need(long answer, const char *call, int line)
+int32 need(long answer, const char *call, const char *file, int line)
 {
     if (answer == FAIL) {
-        fprintf(stderr, "make.c:%d: %s\n", line, call);
+        fprintf(stderr, "%s:%d: %s\n", file, line, call);
         HEprint(stderr, 0);
         exit(1);
     }
@@ -28,7 +23,7 @@ static int32 need(long answer, const char *call, int line)
 
 /* ---- Sample data ---- */
 
-static uint8 bytes[4096];
+uint8 bytes[4096];
 static int32 numbers[256];
 static uint8 palette[768];
 
@@ -50,12 +45,12 @@ static const char *type_names[] = {"char8", "uchar8", "int8",   "uint8",   "int1
 
 /* ---- Raw elements ---- */
 
-static int32 create(const char *name, int16 slots)
+int32 create(const char *name, int16 slots)
 {
     return NEED(Hopen(name, DFACC_CREATE, slots));
 }
 
-static void put(int32 file, uint16 tag, uint16 ref, int32 length)
+void put(int32 file, uint16 tag, uint16 ref, int32 length)
 {
     NEED(Hputelement(file, tag, ref, bytes, length));
 }
@@ -152,46 +147,6 @@ static void set_aside(void)
     NEED(Hclose(file));
 }
 
-static void linked(void)
-{
-    int32 file = create("linked.hdf", 0);
-    int32 element = NEED(HLcreate(file, 1000, 1, 16, 4));
-    NEED(Hwrite(element, 150, bytes));
-    NEED(Hendaccess(element));
-    put(file, 1001, 1, 10);
-    element = NEED(HLcreate(file, 1001, 1, 8, 3));
-    NEED(Hseek(element, 10, DF_START));
-    NEED(Hwrite(element, 30, bytes));
-    NEED(Hendaccess(element));
-    NEED(Hclose(file));
-}
-
-/* Blocks in the middle are never written. */
-static void linked_holes(void)
-{
-    int32 file = create("linked_holes.hdf", 0);
-    int32 element = NEED(HLcreate(file, 1000, 1, 16, 4));
-    NEED(Hwrite(element, 10, bytes));
-    NEED(Hseek(element, 100, DF_START));
-    NEED(Hwrite(element, 10, bytes));
-    NEED(Hendaccess(element));
-    NEED(Hclose(file));
-}
-
-/* An element that grows when another one already lies behind it. */
-static void appended(void)
-{
-    int32 file = create("appended.hdf", 0);
-    put(file, 1100, 1, 10);
-    put(file, 1100, 2, 10);
-    int32 element = NEED(Hstartaccess(file, 1100, 1, DFACC_RDWR | DFACC_APPENDABLE));
-    NEED(HLsetblockinfo(element, 32, 4));
-    NEED(Hseek(element, 10, DF_START));
-    NEED(Hwrite(element, 40, bytes));
-    NEED(Hendaccess(element));
-    NEED(Hclose(file));
-}
-
 static void external(void)
 {
     int32 file = create("external.hdf", 0);
@@ -227,7 +182,7 @@ static void compressed(void)
 
 /* ---- Scientific data sets ---- */
 
-static int32 sd_create(const char *name)
+int32 sd_create(const char *name)
 {
     return NEED(SDstart(name, DFACC_CREATE));
 }
@@ -354,24 +309,6 @@ static void sds_chunked(const char *name, int32 flags)
     NEED(SDend(file));
 }
 
-/* Two sets that grow in turn, each in pieces all over the file. */
-static void sds_unlimited(void)
-{
-    int32 file = sd_create("sds_unlimited.hdf");
-    int32 sizes[] = {SD_UNLIMITED, 5}, count[] = {1, 5}, sets[2];
-    for (int i = 0; i < 2; i++) {
-        sets[i] = NEED(SDcreate(file, i ? "second" : "first", DFNT_INT16, 2, sizes));
-        NEED(SDsetblocksize(sets[i], 40));
-    }
-    for (int32 row = 0; row < 12; row++) {
-        int32 start[] = {row, 0};
-        NEED(SDwritedata(sets[row % 2], start, NULL, count, bytes + row));
-    }
-    for (int i = 0; i < 2; i++)
-        NEED(SDendaccess(sets[i]));
-    NEED(SDend(file));
-}
-
 static void sds_external(void)
 {
     int32 file = sd_create("sds_external.hdf");
@@ -405,14 +342,14 @@ static void dfsd(void)
 
 /* ---- Vdatas and Vgroups ---- */
 
-static int32 v_create(const char *name)
+int32 v_create(const char *name)
 {
     int32 file = create(name, 0);
     NEED(Vstart(file));
     return file;
 }
 
-static void v_close(int32 file)
+void v_close(int32 file)
 {
     NEED(Vend(file));
     NEED(Hclose(file));
@@ -439,7 +376,7 @@ static void vdata_types(void)
     v_close(file);
 }
 
-static int32 road_vdata(int32 file, const char *name, int32 interlace, int32 type)
+int32 road_vdata(int32 file, const char *name, int32 interlace, int32 type)
 {
     int32 vdata = vdata_create(file, name, "roads");
     NEED(VSsetinterlace(vdata, interlace));
@@ -480,22 +417,6 @@ static void vdata_attributes(void)
     int32 vdata = road_vdata(file, "noted", FULL_INTERLACE, DFNT_UINT32);
     NEED(VSsetattr(vdata, _HDF_VDATA, "source", DFNT_CHAR8, 6, "survey"));
     NEED(VSsetattr(vdata, 1, "offsets", DFNT_INT32, 2, numbers));
-    NEED(VSdetach(vdata));
-    v_close(file);
-}
-
-/* Records added when something else already lies behind the first ones. */
-static void vdata_appended(void)
-{
-    int32 file = v_create("vdata_appended.hdf");
-    int32 vdata = road_vdata(file, "growing", FULL_INTERLACE, DFNT_UINT32);
-    int32 ref = NEED(VSQueryref(vdata));
-    NEED(VSdetach(vdata));
-    put(file, 1400, 1, 30);
-    vdata = NEED(VSattach(file, ref, "w"));
-    NEED(VSsetblocksize(vdata, 48));
-    NEED(VSseek(vdata, 6));
-    NEED(VSwrite(vdata, bytes, 9, FULL_INTERLACE));
     NEED(VSdetach(vdata));
     v_close(file);
 }
@@ -720,8 +641,8 @@ static void copy_file(const char *from, const char *to)
     fclose(copy);
 }
 
-/* A copy of a file without its slots that were set aside and never filled. The SD interface leaves some in every file. */
-static void clear(const char *from, const char *to)
+/* The SD interface leaves slots that were never filled in every file. */
+void clear(const char *from, const char *to)
 {
     copy_file(from, to);
     int32 file = NEED(Hopen(to, DFACC_RDWR, 0));
@@ -753,9 +674,6 @@ int main(int count, char **arguments)
     machine_type();
     two_machine_types();
     set_aside();
-    linked();
-    linked_holes();
-    appended();
     external();
     compressed();
     sds_types();
@@ -769,14 +687,12 @@ int main(int count, char **arguments)
     sds_nbit();
     sds_chunked("sds_chunked.hdf", HDF_CHUNK);
     sds_chunked("sds_chunked_deflate.hdf", HDF_CHUNK | HDF_COMP);
-    sds_unlimited();
     sds_external();
     dfsd();
     vdata_types();
     vdata_interlaces();
     vdata_fields();
     vdata_attributes();
-    vdata_appended();
     vdata_empty();
     vgroups();
     vgroups_deep();
@@ -796,8 +712,9 @@ int main(int count, char **arguments)
     clear("sds_attributes.hdf", "cleared_attributes.hdf");
     clear("sds_deflate.hdf", "cleared_deflate.hdf");
     clear("sds_chunked_deflate.hdf", "cleared_chunked_deflate.hdf");
-    clear("sds_unlimited.hdf", "cleared_unlimited.hdf");
     clear("sds_external.hdf", "cleared_external.hdf");
     clear("mixed.hdf", "cleared_mixed.hdf");
+    linked_files();
+    record_contents();
     return 0;
 }

@@ -67,6 +67,15 @@ static void view_and_choose(void)
     need(h.number == HDF4_OUTSIDE && h.place == 124 && h.which == 0 && h.offset == 0 && h.length == 0, "hdf4_choose, refused");
 }
 
+/* The length of an element, also where its second block is missing. */
+static void size(void)
+{
+    hdf4_size_answer s = hdf4_size(linked, 77, 302, 4);
+    need(s.number == 0 && s.place == 0 && s.length == 5, "hdf4_size");
+    s = hdf4_size(file, 398, 100, 9);
+    need(s.number == HDF4_STORAGE && s.place == 124 && s.length == 0, "hdf4_size, refused");
+}
+
 /* Whether a copy answers these numbers. */
 static int copies(hdf4_copy_answer answer, uint64_t number, uint64_t place, uint64_t length, uint64_t index)
 {
@@ -256,7 +265,7 @@ static void names(void)
          "hdf4_refusal_text of NO_BLOCK");
     for (uint64_t number = 0; number < 100; number++)
         need(hdf4_refusal_text(number)[0] != 0, "hdf4_refusal_text of every number");
-    need(strcmp(HDF4_VERSION, "0.2.0") == 0, "HDF4_VERSION");
+    need(strcmp(HDF4_VERSION, "0.2.1") == 0, "HDF4_VERSION");
 }
 
 int main(void)
@@ -266,6 +275,7 @@ int main(void)
     make_linked(linked);
     open_and_find();
     view_and_choose();
+    size();
     copy();
     edit_and_undo();
     edit_room();

@@ -36,6 +36,7 @@ static void read_all(uint8_t *b, uint16_t *s, uint32_t *l, hdf4_field *f, struct
     KEEP(HDF4_SMALL, hdf4_list_answer, hdf4_list(file, FILE_LENGTH, l, 0));
     KEEP(HDF4_NOT_HDF, hdf4_list_answer, hdf4_list(b, 0, l, 0));
     KEEP(HDF4_NOT_HDF, hdf4_view_answer, hdf4_view(b, 0, 100, 1));
+    KEEP(HDF4_NOT_HDF, hdf4_size_answer, hdf4_size(b, 0, 100, 1));
     KEEP(HDF4_NOT_HDF, hdf4_copy_answer, hdf4_copy(b, 0, 100, 1, bytes, 8));
     KEEP(HDF4_SMALL, hdf4_copy_answer, hdf4_copy(file, FILE_LENGTH, 100, 1, b, 0));
     KEEP(HDF4_STORAGE, hdf4_copy_answer, hdf4_copy(file, FILE_LENGTH, 100, 9, b, 0));
@@ -82,6 +83,7 @@ static void edit_all(uint8_t *b, struct answers *answers)
     KEEP(HDF4_NOT_HDF, hdf4_edit_answer, hdf4_undo(b, 0, 0));
     KEEP(HDF4_TOO_LONG, hdf4_edit_answer, hdf4_undo(b, 0, 37));
     KEEP(0, hdf4_view_answer, hdf4_view(buffer, 101, 40000, 5));
+    KEEP(0, hdf4_size_answer, hdf4_size(buffer, 101, 40000, 5));
     KEEP(0, hdf4_copy_answer, hdf4_copy(buffer, 101, 40000, 5, b, 0));
 }
 

@@ -23,6 +23,7 @@ hdf4_open_answer hdf4_open(const uint8_t *image, size_t n);
 hdf4_find_answer hdf4_find(const uint8_t *image, size_t n, uint16_t tag, uint16_t ref);
 hdf4_list_answer hdf4_list(const uint8_t *image, size_t n, uint32_t *table, size_t room);
 hdf4_view_answer hdf4_view(const uint8_t *image, size_t n, uint16_t tag, uint16_t ref);
+hdf4_size_answer hdf4_size(const uint8_t *image, size_t n, uint16_t tag, uint16_t ref);
 hdf4_copy_answer hdf4_copy(const uint8_t *image, size_t n, uint16_t tag, uint16_t ref, uint8_t *out, size_t room);
 hdf4_choose_answer hdf4_choose(const uint8_t *current, size_t n, const uint8_t *fallback, size_t m, uint16_t tag, uint16_t ref);
 hdf4_edit_answer hdf4_add(uint8_t *buffer, size_t capacity, uint64_t n, uint16_t tag, uint16_t ref, const uint8_t *data, size_t size);

@@ -4,7 +4,7 @@
 pub mod chains;
 pub mod changes;
 pub mod edits;
-mod pieces;
+pub mod pieces;
 pub mod records;
 pub mod refusals;
 

@@ -51,6 +51,12 @@ pub fn image(name: &str) -> Result<Vec<u8>, String> {
     read(&Path::new(FOLDER).join(name))
 }
 
+/// The lines of a table of the folder, without its comments.
+pub fn lines(name: &str) -> Result<Vec<String>, String> {
+    let text = String::from_utf8(image(name)?).map_err(|fault| fault.to_string())?;
+    Ok(text.lines().filter(|line| !line.starts_with('#')).map(String::from).collect())
+}
+
 /// Compares all calls on one file, each pair in it looked up. Answers what opening it answers.
 fn compare_one(path: &Path, random: &mut Random, tally: &mut Tally) -> Result<OpenAnswer, String> {
     let image = read(path)?;
@@ -62,13 +68,13 @@ fn compare_one(path: &Path, random: &mut Random, tally: &mut Tally) -> Result<Op
 
 /// The table of expected answers: a name, then number, place, blocks, slots and live slots.
 fn expected_answers() -> Result<BTreeMap<String, String>, String> {
-    let path = Path::new(FOLDER).join("expected.txt");
-    let text = String::from_utf8(read(&path)?).map_err(|fault| fault.to_string())?;
-    let lines = text.lines().filter(|line| !line.starts_with('#'));
-    Ok(lines.filter_map(|line| line.split_once(' ')).map(|(name, line)| (name.into(), line.into())).collect())
+    let lines = lines("expected.txt")?;
+    let lines = lines.iter().filter_map(|line| line.split_once(' '));
+    Ok(lines.map(|(name, line)| (name.into(), line.into())).collect())
 }
 
-fn hdf_files() -> Result<Vec<PathBuf>, String> {
+/// The paths of the files of the folder, in the order of their names.
+pub fn hdf_files() -> Result<Vec<PathBuf>, String> {
     let entries = fs::read_dir(FOLDER).map_err(|fault| format!("{FOLDER}: {fault}"))?;
     let paths = entries.filter_map(|entry| entry.ok()).map(|entry| entry.path());
     let mut files: Vec<PathBuf> = paths.filter(|path| path.extension().is_some_and(|end| end == "hdf")).collect();
@@ -81,7 +87,7 @@ fn numbers(answer: &OpenAnswer) -> String {
     format!("{number} {place} {blocks} {slots} {live}")
 }
 
-fn name_of(path: &Path) -> String {
+pub fn name_of(path: &Path) -> String {
     path.file_name().map(|name| name.to_string_lossy().into_owned()).unwrap_or_default()
 }
 

@@ -24,7 +24,7 @@ pub fn compare_lengths(random: &mut Random, tally: &mut Tally) -> Result<Option<
     too_long(&memory, random, tally).map_err(|difference| difference.to_string())?;
     greatest(&mut memory, random, tally).map_err(|difference| difference.to_string())?;
     records::compare_long_data(&mut memory, random, tally).map_err(|difference| difference.to_string())?;
-    elements::compare_long_copies(&mut memory, tally)?;
+    elements::compare_long_copies(&mut memory, random, tally)?;
     edits::compare_long_files(&mut memory, tally)?;
     drop(memory);
     edits::compare_long_data(tally)?;

@@ -12,6 +12,7 @@
 mod arguments;
 mod cases;
 mod compare;
+mod contents;
 mod editor;
 mod elements;
 mod files;
@@ -155,6 +156,7 @@ fn run_all(options: &Options, random: &mut Random, tally: &mut Tally) -> Result<
     println!("{refusals} named cases of refusals, for {listed} rules alone or two at once");
 
     println!("{} real files", files::compare_all(random, tally)?);
+    println!("{} elements in linked blocks as libhdf4 read them", contents::compare_all()?);
     report(tally)
 }
 

@@ -1,5 +1,5 @@
-//! An independent reading of elements, written from the written rules alone: view, copy, and the choice between two files. Each
-//! answer comes with the way to it: the rule that refused, or what was read.
+//! An independent reading of elements, written from the written rules alone: view, size, copy, and the choice between two
+//! files. Each answer comes with the way to it: the rule that refused, or what was read.
 
 use crate::reader::{Directory, Refusal, Slot, ABSENT, SMALL};
 use std::ops::Range;
@@ -13,21 +13,36 @@ pub const SHORT_BLOCK: u64 = 26;
 pub const TABLE_LOOP: u64 = 27;
 
 /// The kind of an extended element that is linked blocks.
-pub const LINKED: u32 = 1;
+pub const LINKED: u16 = 1;
 /// The tag of tables and blocks.
 pub const LINK_TAG: u16 = 20;
-pub const RECORD_SIZE: usize = 22;
 pub const MOST_TABLES: usize = 256;
+
+/// How the record of a linked element is laid out, told by its length alone.
+#[derive(Clone, Copy, Debug, PartialEq, Eq)]
+pub enum Layout {
+    /// 22 bytes. The record says how long the first block is, and every block is there.
+    Full,
+    /// 16 bytes. The first block has a length of its own, and a block may be a hole: it was never written and reads as zeros.
+    Sparse,
+}
 
 /// How a call came to its answer.
 #[derive(Clone, Copy, Debug, PartialEq, Eq)]
 pub enum Way {
     Plain,
     Empty,
+    Linked,
     LinkedEmpty,
     OneTable,
     Tables,
     MostTables,
+    FirstEmpty,
+    FirstShorter,
+    FirstLonger,
+    FirstHole,
+    LaterHole,
+    OnlyHoles,
     Current,
     CurrentOfBoth,
     Fallback,
@@ -38,8 +53,10 @@ pub enum Way {
     ExtendedOverPlain,
     ExtendedFallback,
     OtherKind,
+    OtherSizeAndKind,
     RecordCut,
-    RecordSize,
+    OtherSizeOfFull,
+    OtherSizeOfSparse,
     FirstLength,
     BlockLength,
     BlockCount,
@@ -69,16 +86,17 @@ pub type Reading<T> = Result<(T, Way), Refused>;
 /// A directory, or why the image does not open.
 pub type Opening = Result<Directory, Refusal>;
 
-/// The record of a linked element.
+/// The record of a linked element, in either layout.
 struct Record {
     length: u32,
-    first_length: u32,
+    /// Given by a full record alone.
+    first_length: Option<u32>,
     block_length: u32,
     block_count: u32,
     table: u16,
 }
 
-/// A rule that a table or a block breaks: its number, and how it is broken.
+/// A rule that a record, a table or a block breaks: its number, and how it is broken.
 type Breach = (u64, Way);
 
 /// Why there is no plain table or block with a reference.
@@ -88,7 +106,13 @@ enum NotThere {
     Extended,
 }
 
-/// A walk through the tables of a linked element: the tables walked, how many blocks were taken from, and their bytes.
+/// What is taken from a block: bytes of the image, or so many zeros from a hole.
+enum Piece<'a> {
+    Bytes(&'a [u8]),
+    Zeros(usize),
+}
+
+/// A walk through the tables of a linked element: the tables walked, and what was taken from each block.
 struct Walk<'a> {
     image: &'a [u8],
     directory: &'a Directory,
@@ -96,8 +120,9 @@ struct Walk<'a> {
     /// The slot of the element.
     place: u64,
     tables: Vec<u16>,
-    blocks: usize,
-    bytes: Vec<u8>,
+    pieces: Vec<Piece<'a>>,
+    /// How many bytes are still to be taken.
+    missing: usize,
 }
 
 /// The element's own part of the image, 0..0 where it has no bytes.
@@ -109,6 +134,19 @@ pub fn view(opening: &Opening, tag: u16, reference: u16) -> Reading<Range<u64>> 
     let part = part_of(slot);
     let way = plain_way(&part);
     Ok((part, way))
+}
+
+/// How many bytes a copy of the element has. Of a linked element the record is judged, and the chain is not.
+pub fn size(image: &[u8], opening: &Opening, tag: u16, reference: u16) -> Reading<u64> {
+    let slot = found(opened(opening)?, tag, reference)?;
+    if is_extended(slot) {
+        return match read_record(bytes_of(image, slot), slot.place)?.length {
+            0 => Ok((0, Way::LinkedEmpty)),
+            length => Ok((length.into(), Way::Linked)),
+        };
+    }
+    let part = part_of(slot);
+    Ok((part.end - part.start, plain_way(&part)))
 }
 
 /// The element's bytes, to go to the front of a room.
@@ -142,14 +180,11 @@ pub fn choose(current: &Opening, fallback: &Opening, tag: u16, reference: u16) -
     }
 }
 
-/// How long a copy is, as far as the element itself tells: for the rooms to try.
-pub fn claimed_length(image: &[u8], directory: &Directory, tag: u16, reference: u16) -> u64 {
-    let Ok(slot) = found(directory, tag, reference) else { return 0 };
-    let bytes = bytes_of(image, slot);
-    match bytes.get(4..8) {
-        Some(length) if is_extended(slot) => u32::from_be_bytes([length[0], length[1], length[2], length[3]]).into(),
-        _ => bytes.len() as u64,
-    }
+/// The layout of an extended element's record, where it has the length of one.
+pub fn layout(opening: &Opening, tag: u16, reference: u16) -> Option<Layout> {
+    let slot = opening.as_ref().ok()?.slot(tag, reference).filter(|slot| is_extended(slot))?;
+    let part = part_of(slot);
+    Layout::of((part.end - part.start) as usize)
 }
 
 pub fn is_extended(slot: &Slot) -> bool {
@@ -195,31 +230,73 @@ fn judge_room(length: u64, room: usize) -> Result<(), Refused> {
 fn copy_extended(image: &[u8], directory: &Directory, slot: &Slot, room: usize) -> Reading<Vec<u8>> {
     let record = read_record(bytes_of(image, slot), slot.place)?;
     judge_room(record.length.into(), room)?;
-    Walk { image, directory, record, place: slot.place, tables: Vec::new(), blocks: 0, bytes: Vec::new() }.follow()
+    let (place, missing) = (slot.place, record.length as usize);
+    Walk { image, directory, record, place, tables: Vec::new(), pieces: Vec::new(), missing }.follow()
 }
 
+/// The record in an element's bytes, refused at the element's slot.
 fn read_record(bytes: &[u8], slot: u64) -> Result<Record, Refused> {
-    if bytes.len() < 4 {
-        return refuse(CHAIN, slot, Way::RecordCut);
+    let record = match Layout::of(bytes.len()) {
+        Some(Layout::Full) => read_full(bytes),
+        Some(Layout::Sparse) => read_sparse(bytes),
+        None => Err(other_size(bytes)),
+    };
+    record.and_then(judge_record).or_else(|(number, way)| refuse(number, slot, way))
+}
+
+fn read_full(bytes: &[u8]) -> Result<Record, Breach> {
+    if number32(bytes, 0) != LINKED.into() {
+        return Err((STORAGE, Way::OtherKind));
     }
-    if number32(bytes, 0) != LINKED {
-        return refuse(STORAGE, slot, Way::OtherKind);
-    }
-    if bytes.len() != RECORD_SIZE {
-        return refuse(CHAIN, slot, Way::RecordSize);
-    }
-    let record = Record {
+    Ok(Record {
         length: number32(bytes, 4),
-        first_length: number32(bytes, 8),
+        first_length: Some(number32(bytes, 8)),
         block_length: number32(bytes, 12),
         block_count: number32(bytes, 16),
         table: number16(bytes, 20),
-    };
+    })
+}
+
+fn read_sparse(bytes: &[u8]) -> Result<Record, Breach> {
+    if number16(bytes, 0) != LINKED {
+        return Err((STORAGE, Way::OtherKind));
+    }
+    Ok(Record {
+        length: number32(bytes, 2),
+        first_length: None,
+        block_length: number32(bytes, 6),
+        block_count: number32(bytes, 10),
+        table: number16(bytes, 14),
+    })
+}
+
+/// What a record breaks that has the length of neither layout. Its kind may stand in 16 bits or in 32.
+fn other_size(bytes: &[u8]) -> Breach {
+    match bytes.len() {
+        0..=3 => (CHAIN, Way::RecordCut),
+        _ if number16(bytes, 0) == LINKED => (CHAIN, Way::OtherSizeOfSparse),
+        _ if number32(bytes, 0) == LINKED.into() => (CHAIN, Way::OtherSizeOfFull),
+        _ => (STORAGE, Way::OtherSizeAndKind),
+    }
+}
+
+fn judge_record(record: Record) -> Result<Record, Breach> {
     match record {
-        Record { first_length: 0, .. } => refuse(CHAIN, slot, Way::FirstLength),
-        Record { block_length: 0, .. } => refuse(CHAIN, slot, Way::BlockLength),
-        Record { block_count: 0, .. } => refuse(CHAIN, slot, Way::BlockCount),
+        Record { first_length: Some(0), .. } => Err((CHAIN, Way::FirstLength)),
+        Record { block_length: 0, .. } => Err((CHAIN, Way::BlockLength)),
+        Record { block_count: 0, .. } => Err((CHAIN, Way::BlockCount)),
         record => Ok(record),
+    }
+}
+
+impl Layout {
+    /// The layout of a record of so many bytes.
+    fn of(size: usize) -> Option<Layout> {
+        match size {
+            22 => Some(Layout::Full),
+            16 => Some(Layout::Sparse),
+            _ => None,
+        }
     }
 }
 
@@ -227,30 +304,41 @@ impl<'a> Walk<'a> {
     /// Follows the tables and takes from their blocks until the length is reached. The first broken one answers.
     fn follow(mut self) -> Reading<Vec<u8>> {
         let mut reference = self.record.table;
-        while self.missing() > 0 {
+        while self.missing > 0 {
             let table = self.table(reference).map_err(|breach| self.broken(breach, self.tables.len()))?;
             self.tables.push(reference);
             reference = number16(table, 0);
             for entry in table[2..].chunks_exact(2).take(self.record.block_count as usize) {
-                if self.missing() > 0 {
-                    let bytes = self.block(number16(entry, 0)).map_err(|breach| self.broken(breach, self.blocks))?;
-                    self.bytes.extend(bytes);
-                    self.blocks += 1;
+                if self.missing > 0 {
+                    let piece = self.block(number16(entry, 0));
+                    let piece = piece.map_err(|breach| self.broken(breach, self.pieces.len()))?;
+                    self.missing -= piece.len();
+                    self.pieces.push(piece);
                 }
             }
         }
-        let way = match self.tables.len() {
-            0 => Way::LinkedEmpty,
-            1 => Way::OneTable,
-            MOST_TABLES => Way::MostTables,
-            _ => Way::Tables,
-        };
-        Ok((self.bytes, way))
+        let mut bytes = Vec::new();
+        self.pieces.iter().for_each(|piece| piece.append_to(&mut bytes));
+        Ok((bytes, self.way()))
     }
 
-    /// How many bytes are still to be taken.
-    fn missing(&self) -> usize {
-        self.record.length as usize - self.bytes.len()
+    /// What a granted walk came through: as many tables as there may be, or holes, or a first block of another length than the
+    /// others, or else one table or more.
+    fn way(&self) -> Way {
+        let Some(first) = self.pieces.first() else { return Way::LinkedEmpty };
+        let holes = self.pieces.iter().filter(|piece| piece.is_hole()).count();
+        let (blocks, block_length) = (self.pieces.len(), self.record.block_length as usize);
+        match first.len() {
+            _ if self.tables.len() == MOST_TABLES => Way::MostTables,
+            _ if holes == blocks => Way::OnlyHoles,
+            _ if first.is_hole() => Way::FirstHole,
+            _ if holes > 0 => Way::LaterHole,
+            0 => Way::FirstEmpty,
+            length if length < block_length && blocks > 1 => Way::FirstShorter,
+            length if length > block_length => Way::FirstLonger,
+            _ if self.tables.len() == 1 => Way::OneTable,
+            _ => Way::Tables,
+        }
     }
 
     /// A whole table: the next reference and all block references. Whether it may come is asked before it is looked up.
@@ -268,12 +356,19 @@ impl<'a> Walk<'a> {
         Ok(bytes)
     }
 
-    /// The bytes taken from the front of the next block.
-    fn block(&self, reference: u16) -> Result<&'a [u8], Breach> {
-        let most = if self.blocks == 0 { self.record.first_length } else { self.record.block_length };
-        let taken = self.missing().min(most as usize);
+    /// What is taken from the next block: from its front, or zeros from a hole, which is as long as any block.
+    fn block(&self, reference: u16) -> Result<Piece<'a>, Breach> {
+        let Record { first_length, block_length, .. } = self.record;
+        if reference == 0 && first_length.is_none() {
+            return Ok(Piece::Zeros(self.missing.min(block_length as usize)));
+        }
         let bytes = self.linked(reference).map_err(|fault| (NO_BLOCK, fault.of_block()))?;
-        bytes.get(..taken).ok_or((SHORT_BLOCK, Way::BlockShort))
+        let most = match first_length {
+            _ if !self.pieces.is_empty() => block_length as usize,
+            Some(length) => length as usize,
+            None => bytes.len(),
+        };
+        bytes.get(..self.missing.min(most)).map(Piece::Bytes).ok_or((SHORT_BLOCK, Way::BlockShort))
     }
 
     /// The bytes of the table or block with a reference, which must be there and plain.
@@ -291,6 +386,26 @@ impl<'a> Walk<'a> {
     /// The refusal by a table or a block with an index, at the slot of the element.
     fn broken(&self, (number, way): Breach, index: usize) -> Refused {
         Refused { refusal: Refusal { number, place: self.place }, index: index as u64, way }
+    }
+}
+
+impl Piece<'_> {
+    fn len(&self) -> usize {
+        match self {
+            Piece::Bytes(bytes) => bytes.len(),
+            Piece::Zeros(count) => *count,
+        }
+    }
+
+    fn is_hole(&self) -> bool {
+        matches!(self, Piece::Zeros(_))
+    }
+
+    fn append_to(&self, all: &mut Vec<u8>) {
+        match self {
+            Piece::Bytes(bytes) => all.extend(*bytes),
+            Piece::Zeros(count) => all.resize(all.len() + count, 0),
+        }
     }
 }
 

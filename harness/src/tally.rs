@@ -3,7 +3,7 @@
 use crate::editor::{Reason, BAD_TRAILER, NO_EDIT, NO_ROOM, PRESENT};
 use crate::reader::{ABSENT, SMALL, TWICE};
 use crate::records::{Cause, DEEP, NO_VALUE, RECORD, TYPE};
-use crate::storage::{Way, CHAIN, NO_BLOCK, NO_TABLE, SHORT_BLOCK, SHORT_TABLE, STORAGE, TABLE_LOOP};
+use crate::storage::{Layout, Way, CHAIN, NO_BLOCK, NO_TABLE, SHORT_BLOCK, SHORT_TABLE, STORAGE, TABLE_LOOP};
 use crate::vset::TYPES;
 use std::fmt;
 
@@ -14,6 +14,7 @@ pub enum Call {
     List,
     Find,
     View,
+    Size,
     Copy,
     Choose,
     Add,
@@ -35,11 +36,12 @@ pub enum Call {
     PackVdata,
 }
 
-pub const CALLS: [Call; 23] = [
+pub const CALLS: [Call; 24] = [
     Call::Open,
     Call::List,
     Call::Find,
     Call::View,
+    Call::Size,
     Call::Copy,
     Call::Choose,
     Call::Add,
@@ -60,10 +62,23 @@ pub const CALLS: [Call; 23] = [
     Call::PackGroup,
     Call::PackVdata,
 ];
-const FILE_CALLS: usize = 10;
-const READS: [Call; 3] = [Call::View, Call::Copy, Call::Choose];
+const FILE_CALLS: usize = 11;
 const EDITS: [Call; 4] = [Call::Add, Call::Replace, Call::Remove, Call::Undo];
 const NUMBERS: usize = 31;
+
+/// A call that reads an element and, where it is counted by it, the layout of the element's record; with its name in the table.
+type Read = (Call, Option<Layout>, &'static str);
+
+const READS: [Read; 8] = [
+    (Call::View, None, "view"),
+    (Call::Size, None, "size"),
+    (Call::Size, Some(Layout::Full), "size of 22"),
+    (Call::Size, Some(Layout::Sparse), "size of 16"),
+    (Call::Copy, None, "copy"),
+    (Call::Copy, Some(Layout::Full), "copy of 22"),
+    (Call::Copy, Some(Layout::Sparse), "copy of 16"),
+    (Call::Choose, None, "choose"),
+];
 
 /// The rules that refuse an edit or an undo, with their names in the table.
 const REASONS: [(Reason, &str); 17] = [
@@ -87,13 +102,20 @@ const REASONS: [(Reason, &str); 17] = [
 ];
 
 /// The ways to an answer of a call that reads an element, with their names in the table.
-const WAYS: [(Way, &str); 32] = [
+const WAYS: [(Way, &str); 41] = [
     (Way::Plain, "0 plain"),
     (Way::Empty, "0 empty"),
+    (Way::Linked, "0 linked"),
     (Way::LinkedEmpty, "0 linked, empty"),
     (Way::OneTable, "0 one table"),
     (Way::Tables, "0 more tables"),
     (Way::MostTables, "0 256 tables"),
+    (Way::FirstEmpty, "0 first block empty"),
+    (Way::FirstShorter, "0 first block shorter"),
+    (Way::FirstLonger, "0 first block longer"),
+    (Way::FirstHole, "0 first block a hole"),
+    (Way::LaterHole, "0 later block a hole"),
+    (Way::OnlyHoles, "0 only holes"),
     (Way::Current, "0 current"),
     (Way::CurrentOfBoth, "0 current of both"),
     (Way::Fallback, "0 fallback"),
@@ -104,8 +126,10 @@ const WAYS: [(Way, &str); 32] = [
     (Way::ExtendedOverPlain, "12 above a plain one"),
     (Way::ExtendedFallback, "12 in fallback"),
     (Way::OtherKind, "12 other kind"),
+    (Way::OtherSizeAndKind, "12 size, other kind"),
     (Way::RecordCut, "13 record cut"),
-    (Way::RecordSize, "13 record size"),
+    (Way::OtherSizeOfFull, "13 size, kind in 32"),
+    (Way::OtherSizeOfSparse, "13 size, kind in 16"),
     (Way::FirstLength, "13 first_len 0"),
     (Way::BlockLength, "13 blk_len 0"),
     (Way::BlockCount, "13 num_blk 0"),
@@ -180,20 +204,20 @@ pub struct Tally {
     pub undone_starts: u64,
     reached: [[u64; NUMBERS]; CALLS.len()],
     broken: [[u64; REASONS.len()]; CALLS.len()],
-    gone: [[u64; WAYS.len()]; CALLS.len()],
+    gone: Counts<{ READS.len() }, { WAYS.len() }>,
     /// Copies refused at the first table or block, and at a later one.
     indices: [[u64; 2]; WITH_INDEX.len()],
-    caused: Causes,
+    caused: Counts<{ CALLS.len() }, { CAUSES.len() }>,
     /// Values read of each type, by record and by field.
     values: [[u64; 2]; TYPES.len()],
 }
 
-/// How often each call on records came to an answer by each cause.
-struct Causes([[u64; CAUSES.len()]; CALLS.len()]);
+/// A table of counts, zeros at first. The rows may be longer than those that have a default of their own.
+struct Counts<const ROWS: usize, const COLUMNS: usize>([[u64; COLUMNS]; ROWS]);
 
-impl Default for Causes {
-    fn default() -> Causes {
-        Causes([[0; CAUSES.len()]; CALLS.len()])
+impl<const ROWS: usize, const COLUMNS: usize> Default for Counts<ROWS, COLUMNS> {
+    fn default() -> Counts<ROWS, COLUMNS> {
+        Counts([[0; COLUMNS]; ROWS])
     }
 }
 
@@ -204,6 +228,7 @@ impl Call {
             Call::List => "list",
             Call::Find => "find",
             Call::View => "view",
+            Call::Size => "size",
             Call::Copy => "copy",
             Call::Choose => "choose",
             Call::Add => "add",
@@ -242,6 +267,7 @@ impl Call {
             Call::List => &[SMALL],
             Call::Find => &[ABSENT],
             Call::View | Call::Choose => &[ABSENT, STORAGE],
+            Call::Size => &[ABSENT, STORAGE, CHAIN],
             Call::Copy => &[ABSENT, STORAGE, CHAIN, SMALL, NO_TABLE, SHORT_TABLE, NO_BLOCK, SHORT_BLOCK, TABLE_LOOP],
             Call::Add => &[PRESENT, NO_ROOM],
             Call::Replace | Call::Remove => &[ABSENT, NO_ROOM],
@@ -300,17 +326,28 @@ impl Call {
             _ => self == Call::ListGroup,
         }
     }
+}
 
-    /// Whether the call can come to an answer in this way.
-    fn can_go(self, way: Way) -> bool {
-        match way {
-            Way::Opening | Way::Absent => READS.contains(&self),
-            Way::Plain | Way::Empty => self == Call::View || self == Call::Copy,
-            Way::Extended => self == Call::View || self == Call::Choose,
-            Way::Current | Way::CurrentOfBoth | Way::Fallback => self == Call::Choose,
-            Way::OpeningFallback | Way::ExtendedOverPlain | Way::ExtendedFallback => self == Call::Choose,
-            _ => self == Call::Copy,
+/// Whether a call can come to an answer in this way, by the layout of the element's record.
+fn can_go((call, layout, _): Read, way: Way) -> bool {
+    let judges_record = call == Call::Size || call == Call::Copy;
+    match way {
+        Way::Opening | Way::Absent => layout.is_none(),
+        Way::Plain | Way::Empty => layout.is_none() && call != Call::Choose,
+        Way::Extended => call == Call::View || call == Call::Choose,
+        Way::Current | Way::CurrentOfBoth | Way::Fallback => call == Call::Choose,
+        Way::OpeningFallback | Way::ExtendedOverPlain | Way::ExtendedFallback => call == Call::Choose,
+        Way::OtherSizeAndKind | Way::RecordCut => layout.is_none() && judges_record,
+        Way::OtherSizeOfFull | Way::OtherSizeOfSparse => layout.is_none() && judges_record,
+        Way::LinkedEmpty | Way::OtherKind | Way::BlockLength | Way::BlockCount => layout.is_some(),
+        Way::FirstLength => layout == Some(Layout::Full),
+        Way::Linked => layout.is_some() && call == Call::Size,
+        Way::Room => call == Call::Copy,
+        Way::FirstEmpty | Way::FirstHole | Way::LaterHole | Way::OnlyHoles => {
+            layout == Some(Layout::Sparse) && call == Call::Copy
         }
+        Way::BlockZero => layout == Some(Layout::Full) && call == Call::Copy,
+        _ => layout.is_some() && call == Call::Copy,
     }
 }
 
@@ -330,8 +367,10 @@ impl Tally {
         self.broken[call as usize][reason as usize] += 1;
     }
 
-    pub fn count_way(&mut self, call: Call, way: Way) {
-        self.gone[call as usize][way as usize] += 1;
+    /// The way to an answer, by the layout of the element's record where the call judges that.
+    pub fn count_way(&mut self, call: Call, layout: Option<Layout>, way: Way) {
+        let column = READS.iter().position(|(known, of, _)| (*known, *of) == (call, layout));
+        self.gone.0[column.expect("a call that reads an element")][way as usize] += 1;
     }
 
     /// The index in the answer to a copy, where its number has one.
@@ -359,7 +398,7 @@ impl Tally {
         self.undone_starts += other.undone_starts;
         add_each(&mut self.reached, &other.reached);
         add_each(&mut self.broken, &other.broken);
-        add_each(&mut self.gone, &other.gone);
+        add_each(&mut self.gone.0, &other.gone.0);
         add_each(&mut self.indices, &other.indices);
         add_each(&mut self.caused.0, &other.caused.0);
         add_each(&mut self.values, &other.values);
@@ -374,9 +413,10 @@ impl Tally {
         let name = |call: Call, what: &str| format!("{}: {what}", call.title());
         let numbers = cells(numbers_of(&CALLS)).filter(|(number, call)| self.number(*call, *number) == Some(0));
         let reasons = cells(REASONS.into_iter()).filter(|((reason, _), call)| self.reason(*call, *reason) == Some(0));
-        let ways = cells(WAYS.into_iter()).filter(|((way, _), call)| self.way(*call, *way) == Some(0));
         let numbers = numbers.map(|(number, call)| name(call, &number.to_string()));
-        let ways = ways.map(|((_, title), call)| name(call, title));
+        let ways = WAYS.into_iter().flat_map(|(way, title)| self.ways(way).map(move |counted| (counted, title)));
+        let ways = ways.filter(|((_, count), _)| *count == Some(0));
+        let ways = ways.map(|(((_, _, read), _), title)| format!("{read}: {title}"));
         let causes = cells(CAUSES.into_iter()).filter(|((cause, _), call)| self.cause(*call, *cause) == Some(0));
         let causes = causes.map(|((_, title), call)| name(call, title));
         let indices = self.index_counts().filter(|(_, counts)| counts.contains(&Some(0)));
@@ -394,9 +434,11 @@ impl Tally {
         call.can_answer(number).then(|| self.reached[call as usize][number as usize])
     }
 
-    /// How often a call came to an answer in a way, where it can.
-    fn way(&self, call: Call, way: Way) -> Option<u64> {
-        call.can_go(way).then(|| self.gone[call as usize][way as usize])
+    /// How often each call that reads an element came to an answer in a way, where it can.
+    fn ways(&self, way: Way) -> impl Iterator<Item = (Read, Option<u64>)> + '_ {
+        let count =
+            move |(read, counts): (Read, &[u64; WAYS.len()])| (read, can_go(read, way).then_some(counts[way as usize]));
+        READS.into_iter().zip(&self.gone.0).map(count)
     }
 
     /// How often a copy was refused with each number at the first table or block, and at a later one. The first table repeats
@@ -438,9 +480,9 @@ impl fmt::Display for Tally {
                 row(out, &number.to_string(), calls.iter().map(|call| self.number(*call, number)))?;
             }
         }
-        head(out, "reading", READS.iter().map(|call| call.title()))?;
+        head(out, "reading", READS.iter().map(|(_, _, title)| *title))?;
         for (way, title) in WAYS {
-            row(out, title, READS.iter().map(|call| self.way(*call, way)))?;
+            row(out, title, self.ways(way).map(|(_, count)| count))?;
         }
         head(out, "index of a copy", ["first", "later"].into_iter())?;
         for (number, counts) in self.index_counts() {

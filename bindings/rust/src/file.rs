@@ -105,11 +105,16 @@ impl File {
         crate::view(&self.bytes, tag, reference)
     }
 
+    /// How many bytes a copy of an element has, as [`size`](crate::size) gives it.
+    pub fn size(&self, tag: u16, reference: u16) -> Result<usize, Error> {
+        crate::size(&self.bytes, tag, reference)
+    }
+
     /// An element's bytes, plain or of linked blocks, at most `most` of them.
     ///
-    /// An element of linked blocks may be longer than its file, up to 4 GB, since blocks can be named twice: `most` says what
-    /// the caller will bear. A longer element is refused with [`Rule::Small`], and so is one that there is no memory for. Where
-    /// linked blocks are broken the refusal says which table or block is.
+    /// An element of linked blocks may be longer than its file, up to 4 GB, since blocks can be named twice or never have been
+    /// written: `most` says what the caller will bear. A longer element is refused with [`Rule::Small`], and so is one that
+    /// there is no memory for. Where linked blocks are broken the refusal says which table or block is.
     ///
     /// ```
     /// # fn main() -> Result<(), hdf4::Error> {
@@ -125,29 +130,17 @@ impl File {
             Err(Error { rule: Rule::Storage, .. }) => return self.copy_linked(tag, reference, most),
             part => part?,
         };
-        let mut bytes = Vec::new();
-        if part.len() > most || bytes.try_reserve_exact(part.len()).is_err() {
-            return Err(SMALL);
-        }
+        let mut bytes = reserved(part.len(), most)?;
         bytes.extend_from_slice(part);
         Ok(bytes)
     }
 
-    /// Its length is not known before: the room grows until the element fits.
     fn copy_linked(&self, tag: u16, reference: u16, most: usize) -> Result<Vec<u8>, CopyError> {
-        let mut bytes = Vec::new();
-        let mut room = most.min(self.bytes.len());
-        loop {
-            bytes.try_reserve_exact(room - bytes.len()).map_err(|_| SMALL)?;
-            bytes.resize(room, 0);
-            match crate::copy(&self.bytes, tag, reference, &mut bytes) {
-                Err(CopyError { rule: Rule::Small, .. }) if room < most => room = most.min(2 * room),
-                copied => {
-                    bytes.truncate(copied?);
-                    return Ok(bytes);
-                }
-            }
-        }
+        let size = self.size(tag, reference)?;
+        let mut bytes = reserved(size, most)?;
+        bytes.resize(size, 0);
+        crate::copy(&self.bytes, tag, reference, &mut bytes)?;
+        Ok(bytes)
     }
 
     /// The reference of a table or block of the element whose slot is at a place, as
@@ -227,8 +220,14 @@ impl File {
     }
 }
 
-/// The refusal of a copy that is longer than the room for it.
-const SMALL: CopyError = CopyError { rule: Rule::Small, place: 0, link: None };
+/// Memory for a copy of so many bytes, if they are not more than the caller will bear.
+fn reserved(size: usize, most: usize) -> Result<Vec<u8>, CopyError> {
+    let mut bytes = Vec::new();
+    if size > most || bytes.try_reserve_exact(size).is_err() {
+        return Err(CopyError { rule: Rule::Small, place: 0, link: None });
+    }
+    Ok(bytes)
+}
 
 /// The bytes, so that every function that takes an image takes a file.
 impl AsRef<[u8]> for File {
@@ -346,6 +345,8 @@ mod tests {
         let file = file();
         assert_eq!(file.find(100, 2), Ok(34));
         assert_eq!(file.view(100, 2), Ok(&b"north"[..]));
+        assert_eq!((file.size(100, 2), file.size(720, 9)), (Ok(5), Ok(0)));
+        assert_eq!(rule(file.size(100, 3)), (Rule::Absent, 11, 0));
         assert_eq!(file.copy(100, 2, 5), Ok(b"north".to_vec()));
         assert_eq!(file.copy(720, 9, 0), Ok(vec![]));
         assert_eq!(rule(file.copy(100, 2, 4)), (Rule::Small, 14, 0));
@@ -365,6 +366,7 @@ mod tests {
         let file = linked();
         assert!(file.bytes().len() < 1000);
         assert_eq!(rule(file.view(100, 1)), (Rule::Storage, 12, 10));
+        assert_eq!(file.size(100, 1), Ok(12000));
         for most in [12000, 12001, usize::MAX] {
             assert_eq!(file.copy(100, 1, most), Ok(vec![b'a'; 12000]));
         }

@@ -12,8 +12,9 @@
 //! one.
 //!
 //! [`view`] gives an element's own part of the image, [`choose`] that of the first of two images that has the element, and
-//! [`copy`] writes its bytes to a buffer, also where the element is of linked blocks. Where these are broken its [`CopyError`]
-//! says which table or block is, and [`link_reference`] gives the reference of that one.
+//! [`copy`] writes its bytes to a buffer, also where the element is of linked blocks; [`size`] tells how long the buffer must be.
+//! Where linked blocks are broken the [`CopyError`] says which table or block is, and [`link_reference`] gives the reference of
+//! that one.
 //!
 //! # Records
 //!
@@ -197,8 +198,28 @@ pub fn view(image: &[u8], tag: u16, reference: u16) -> Result<&[u8], Error> {
     Ok(part(image, a.offset, a.length))
 }
 
+/// Gives the number of bytes that [`copy`] would write, and so how long its `out` must be. The element is plain or of linked
+/// blocks; their record is judged, and their tables and blocks are not: [`copy`] may still refuse these.
+///
+/// ```
+/// # fn main() -> Result<(), hdf4::Error> {
+/// // Element 100/1 of eight bytes: table 20/5 names two blocks that were never written.
+/// let image = b"\x0e\x03\x13\x01\0\x02\0\0\0\0\x40\x64\0\x01\0\0\0\x22\0\0\0\x10\0\x14\0\x05\0\0\0\x32\0\0\0\x06\
+///               \0\x01\0\0\0\x08\0\0\0\x04\0\0\0\x02\0\x05\0\0\0\0\0\0";
+/// let mut out = vec![0xee; hdf4::size(image, 100, 1)?];
+/// hdf4::copy(image, 100, 1, &mut out)?;
+/// assert_eq!(out, [0; 8]);
+/// # Ok(())
+/// # }
+/// ```
+pub fn size(image: &[u8], tag: u16, reference: u16) -> Result<usize, Error> {
+    let a = ffi::size(image, tag, reference);
+    granted(a.number, a.place, a.length as usize)
+}
+
 /// Copies an element's bytes to the front of `out` and gives their number; the rest of `out` stays as it was. The element is
-/// plain or of linked blocks. Where these are broken the refusal says which table or block is.
+/// plain or of linked blocks, of which one that was never written reads as zeros. Where they are broken the refusal says which
+/// table or block is.
 pub fn copy(image: &[u8], tag: u16, reference: u16, out: &mut [u8]) -> Result<usize, CopyError> {
     let a = ffi::copy(image, tag, reference, out);
     granted(a.number, a.place, a.length as usize).map_err(|_| CopyError::new(a.number, a.place, a.index))
@@ -312,6 +333,20 @@ pub(crate) mod tests {
         assert_eq!(view(&A, 100, 2).unwrap_err().rule, Rule::Absent);
         let extended = view(&LINKED, 100, 1).unwrap_err();
         assert_eq!((extended.rule, extended.number(), extended.place), (Rule::Storage, 12, 10));
+    }
+
+    #[test]
+    fn a_size_is_told_before_the_chain_is_judged() {
+        assert_eq!((size(&A, 100, 1), size(&LINKED, 100, 1), size(&LINKED, 20, 1)), (Ok(3), Ok(7), Ok(6)));
+        assert_eq!(rule(size(&A, 100, 2)), (Rule::Absent, 11, 0));
+        assert_eq!(rule(size(&A[..36], 100, 1)), (Rule::Outside, 8, 10));
+        let mut broken = LINKED;
+        broken[73] = 3;
+        assert_eq!(size(&broken, 100, 1), Ok(7));
+        broken[65] = 0;
+        assert_eq!(rule(size(&broken, 100, 1)), (Rule::Chain, 13, 10));
+        broken[49] = 3;
+        assert_eq!(rule(size(&broken, 100, 1)), (Rule::Storage, 12, 10));
     }
 
     #[test]

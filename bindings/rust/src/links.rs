@@ -106,13 +106,19 @@ const LINKED_KIND: u32 = 1;
 /// The most tables that an element has.
 const MOST_TABLES: usize = 256;
 
-/// What an extended element has for linked blocks.
+/// The lengths of the two layouts of a record, and what tells them apart: the sparse one, as libhdf4 writes it, and the full one,
+/// which has the length of block 0.
+const SPARSE_BYTES: usize = 16;
+const FULL_BYTES: usize = 22;
+
+/// What an extended element has for linked blocks, by a record of either layout.
 #[derive(Clone, Copy, Debug)]
 struct Record {
     /// Bytes of the element.
     length: u32,
-    /// The most bytes that block 0 gives.
-    first: u32,
+    /// The most bytes that block 0 gives. None in a sparse record: its own element says it, and blocks may never have been
+    /// written.
+    first: Option<u32>,
     /// The most bytes that each later block gives.
     block: u32,
     /// How many blocks a table names.
@@ -124,11 +130,21 @@ struct Record {
 impl Record {
     /// The record that these bytes are, if they break no rule of it.
     fn read(bytes: &[u8]) -> Option<Record> {
-        let (numbers, table) = bytes.as_chunks::<4>();
-        let numbers: [[u8; 4]; 5] = numbers.try_into().ok()?;
-        let [kind, length, first, block, entries] = numbers.map(u32::from_be_bytes);
+        let kind = LINKED_KIND.to_be_bytes();
+        let fields = match bytes.len() {
+            SPARSE_BYTES => bytes.strip_prefix(&kind[2..])?,
+            FULL_BYTES => bytes.strip_prefix(&kind)?,
+            _ => return None,
+        };
+        let (numbers, table) = fields.as_chunks::<4>();
+        let numbers: Vec<u32> = numbers.iter().map(|number| u32::from_be_bytes(*number)).collect();
+        let (length, first, block, entries) = match numbers[..] {
+            [length, block, entries] => (length, None, block, entries),
+            [length, first, block, entries] => (length, Some(first), block, entries),
+            _ => return None,
+        };
         let table = u16::from_be_bytes(table.try_into().ok()?);
-        let holds = kind == LINKED_KIND && ![first, block, entries].contains(&0);
+        let holds = first != Some(0) && block != 0 && entries != 0;
         holds.then_some(Record { length, first, block, entries, table })
     }
 }
@@ -170,17 +186,29 @@ impl<'a> Links<'a> {
         }
     }
 
-    /// How many bytes a table must have, or a block for what is taken from it: 0 for a block behind the element's end.
+    /// How many bytes a table must have, or a block for what is taken from it: 0 for a block behind the element's end, and for
+    /// one that was never written, which reads as zeros.
     pub fn needed(&self, link: Link) -> u64 {
         let Record { length, first, block, entries, .. } = self.record;
-        let [length, first, block] = [length, first, block].map(u64::from);
+        let [length, block] = [length, block].map(u64::from);
         match link {
             Link::Table(_) => 2 + 2 * u64::from(entries),
-            Link::Block(0) => first.min(length),
+            Link::Block(_) if first.is_none() && self.reference(link) == Some(0) => 0,
+            Link::Block(0) => self.first().min(length),
             Link::Block(index) => {
-                let before = block.saturating_mul(index as u64 - 1).saturating_add(first);
+                let before = block.saturating_mul(index as u64 - 1).saturating_add(self.first());
                 block.min(length.saturating_sub(before))
             }
+        }
+    }
+
+    /// The most bytes that block 0 gives: by the record or, where that does not say it, as many as its own element has, or as
+    /// every other block where it was never written.
+    fn first(&self) -> u64 {
+        match (self.record.first, self.reference(Link::Block(0))) {
+            (Some(first), _) => first.into(),
+            (None, Some(0)) => self.record.block.into(),
+            (None, reference) => reference.and_then(|reference| self.parts.get(&reference)).map_or(0, |part| part.len() as u64),
         }
     }
 }
@@ -223,7 +251,7 @@ pub fn link_reference(image: &[u8], place: u64, link: Link) -> Option<u16> {
 mod tests {
     use super::*;
     use crate::tests::file_of;
-    use crate::{copy, File};
+    use crate::{copy, size, view, File};
 
     type Elements = Vec<(u16, u16, Vec<u8>)>;
 
@@ -232,6 +260,10 @@ mod tests {
 
     fn record(length: u32, first: u32, block: u32, entries: u32, table: u16) -> Vec<u8> {
         [&[LINKED_KIND, length, first, block, entries].map(u32::to_be_bytes).concat()[..], &table.to_be_bytes()].concat()
+    }
+
+    fn sparse_record(length: u32, block: u32, entries: u32, table: u16) -> Vec<u8> {
+        [&[0, 1][..], &[length, block, entries].map(u32::to_be_bytes).concat(), &table.to_be_bytes()].concat()
     }
 
     fn table(references: &[u16]) -> Vec<u8> {
@@ -244,6 +276,14 @@ mod tests {
             vec![(EXTENDED + 100, 1, record(17, 4, 5, 2, 1)), (20, 1, table(&[2, 11, 12])), (20, 2, table(&[0, 13, 14]))];
         let blocks = [&b"pass"[..], b" road", b" shut", b" up"];
         elements.extend((11..).zip(blocks).map(|(reference, block)| (20, reference, block.to_vec())));
+        elements
+    }
+
+    /// The same with a sparse record; block 2 was never written.
+    fn sparse() -> Elements {
+        let mut elements = elements();
+        elements[0].2 = sparse_record(17, 5, 2, 1);
+        elements[2].2 = table(&[0, 0, 14]);
         elements
     }
 
@@ -267,7 +307,10 @@ mod tests {
 
     /// The same where one of the elements is another.
     fn changed(index: usize, change: impl Fn(&mut (u16, u16, Vec<u8>))) -> (Rule, Link, Option<u16>) {
-        let mut elements = elements();
+        changed_of(elements(), index, change)
+    }
+
+    fn changed_of(mut elements: Elements, index: usize, change: impl Fn(&mut (u16, u16, Vec<u8>))) -> (Rule, Link, Option<u16>) {
         change(&mut elements[index]);
         broken(&elements)
     }
@@ -290,6 +333,19 @@ mod tests {
         assert_eq!(changed(2, |table| table.2[3] = 0), (Rule::NoBlock, Link::Block(2), Some(0)));
         assert_eq!(changed(3, |block| block.2.truncate(3)), (Rule::ShortBlock, Link::Block(0), Some(11)));
         assert_eq!(changed(6, |block| block.2.clear()), (Rule::ShortBlock, Link::Block(3), Some(14)));
+    }
+
+    #[test]
+    fn what_a_sparse_record_leads_to_is_named() {
+        let changed = |index, change: fn(&mut (u16, u16, Vec<u8>))| changed_of(sparse(), index, change);
+        assert_eq!(changed(0, |record| record.2[15] = 0), (Rule::NoTable, Link::Table(0), Some(0)));
+        assert_eq!(changed(1, |table| table.2[1] = 0), (Rule::NoTable, Link::Table(1), Some(0)));
+        assert_eq!(changed(2, |table| table.2.truncate(5)), (Rule::ShortTable, Link::Table(1), Some(2)));
+        assert_eq!(changed(3, |block| block.1 = 9), (Rule::NoBlock, Link::Block(0), Some(11)));
+        assert_eq!(changed(3, |block| block.0 += EXTENDED), (Rule::NoBlock, Link::Block(0), Some(11)));
+        assert_eq!(changed(4, |block| block.2.truncate(4)), (Rule::ShortBlock, Link::Block(1), Some(12)));
+        // Block 0 gives what it has, and the later ones so much more.
+        assert_eq!(changed(3, |block| block.2.truncate(3)), (Rule::ShortBlock, Link::Block(3), Some(14)));
     }
 
     #[test]
@@ -331,7 +387,7 @@ mod tests {
         let image = image(&elements());
         let links = Links::of(&image, PLACE).unwrap();
         assert_eq!(links.tables().collect::<Vec<u16>>(), [1, 2, 0]);
-        let record = "Record { length: 17, first: 4, block: 5, entries: 2, table: 1 }";
+        let record = "Record { length: 17, first: Some(4), block: 5, entries: 2, table: 1 }";
         assert_eq!(format!("{links:?}"), format!("Links {{ record: {record}, parts: 6 }}"));
         let needed = [0, 1, 2, 3, 4, usize::MAX].map(|index| links.needed(Link::Block(index)));
         assert_eq!((needed, links.needed(Link::Table(7))), ([4, 5, 5, 3, 0, 0], 6));
@@ -339,15 +395,63 @@ mod tests {
         assert_eq!([2, 3, usize::MAX].map(|index| links.reference(Link::Table(index))), [Some(0), None, None]);
     }
 
-    /// Each byte in turn is another: whatever the image then is, it is answered, and a link that a copy gives has its reference.
+    /// What a copy of 100/1 gives, and what is needed of its first five blocks.
+    fn copied(elements: &Elements) -> (Vec<u8>, [u64; 5]) {
+        let image = image(elements);
+        let links = Links::of(&image, PLACE).unwrap();
+        let needed = [0, 1, 2, 3, 4].map(|index| links.needed(Link::Block(index)));
+        (File::new(image.clone()).unwrap().copy(100, 1, 300).unwrap(), needed)
+    }
+
+    #[test]
+    fn of_a_block_that_was_never_written_nothing_is_needed() {
+        let mut elements = sparse();
+        assert_eq!(copied(&elements), (b"pass road\0\0\0\0\0 up".to_vec(), [4, 5, 0, 3, 0]));
+        // Block 0 is never written either, and is then as long as every other.
+        elements[1].2 = table(&[2, 0, 12]);
+        assert_eq!(copied(&elements), (b"\0\0\0\0\0 road\0\0\0\0\0 u".to_vec(), [0, 5, 0, 2, 0]));
+        // Block 0 has no bytes, or all of them.
+        elements[0].2 = sparse_record(13, 5, 2, 1);
+        elements[1].2 = table(&[2, 11, 12]);
+        elements[3].2.clear();
+        assert_eq!(copied(&elements), (b" road\0\0\0\0\0 up".to_vec(), [0, 5, 0, 3, 0]));
+        elements[3].2 = b"pass road shut up".to_vec();
+        assert_eq!(copied(&elements), (b"pass road shu".to_vec(), [13, 0, 0, 0, 0]));
+    }
+
+    /// Records of either layout, made shorter, longer and other in one byte: they are read where the library takes them, with the
+    /// length that it gives.
+    #[test]
+    fn a_record_is_read_as_the_library_reads_it() {
+        let lengths = (1..=FULL_BYTES + 2).flat_map(|length| (0..length).map(move |at| (length, at)));
+        for (length, at) in lengths {
+            for (sparse, byte) in [(false, 0), (false, 1), (false, 2), (true, 0), (true, 1), (true, 2)] {
+                let mut bytes = if sparse { sparse_record(17, 5, 2, 1) } else { record(17, 4, 5, 2, 1) };
+                bytes.resize(length, 0);
+                bytes[at] = byte;
+                let image = image(&vec![(EXTENDED + 100, 1, bytes)]);
+                let read = Links::of(&image, PLACE).map(|links| links.record.length as usize);
+                assert_eq!(size(&image, 100, 1).ok(), read, "{length} {at} {byte} {sparse}");
+            }
+        }
+    }
+
     #[test]
     fn any_bytes_are_answered() {
-        let sound = image(&elements());
+        [elements(), sparse()].iter().for_each(|elements| answered(&image(elements)));
+    }
+
+    /// Each byte in turn is another: whatever the image then is, it is answered, and a link that a copy gives has its reference,
+    /// and too few bytes where it is short.
+    fn answered(sound: &[u8]) {
         for (at, byte) in (0..sound.len()).flat_map(|at| [0, 1, 2, 20, 64, 255].map(|byte| (at, byte))) {
-            let mut image = sound.clone();
+            let mut image = sound.to_vec();
             image[at] = byte;
-            if let Err(CopyError { place, link: Some(link), .. }) = copy(&image, 100, 1, &mut [0; 300]) {
-                assert!(link_reference(&image, place, link).is_some(), "{at} {byte}");
+            if let Err(CopyError { rule, place, link: Some(link) }) = copy(&image, 100, 1, &mut [0; 300]) {
+                let reference = link_reference(&image, place, link).expect("a reference");
+                let short = view(&image, LINKED_TAG, reference)
+                    .is_ok_and(|part| (part.len() as u64) < Links::of(&image, place).unwrap().needed(link));
+                assert_eq!(short, [Rule::ShortTable, Rule::ShortBlock].contains(&rule), "{at} {byte}");
             }
             for place in (0..40).chain([sound.len() as u64, u64::MAX]) {
                 for link in [0, 3, 256, usize::MAX].into_iter().flat_map(|index| [Link::Table(index), Link::Block(index)]) {
@@ -357,6 +461,6 @@ mod tests {
             }
         }
         assert!((0..sound.len()).all(|length| Links::of(&sound[..length], PLACE).is_none()));
-        assert!(Links::of(&sound, PLACE).is_some() && Links::of(&sound, PLACE + 12).is_none());
+        assert!(Links::of(sound, PLACE).is_some() && Links::of(sound, PLACE + 12).is_none());
     }
 }

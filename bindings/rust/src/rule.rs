@@ -56,7 +56,8 @@ pub enum Rule {
     NoTable,
     /// A table of the element's linked blocks has too few bytes for its entries; the index is the table's.
     ShortTable,
-    /// A linked block is absent or extended, or its reference is 0; the index is the block's, through the whole element.
+    /// A linked block is absent or extended, or its reference is 0 by a record of 22 bytes; the index is the block's, through the
+    /// whole element.
     NoBlock,
     /// A linked block has fewer bytes than are taken from it; the index is the block's, through the whole element.
     ShortBlock,

@@ -27,11 +27,16 @@ pub fn shorts(numbers: &[u16]) -> Vec<u8> {
     numbers.iter().flat_map(|number| number.to_be_bytes()).collect()
 }
 
-/// The record of an element in linked blocks: its length, the bytes of the first block and of each later one, the blocks of a
-/// table, and the reference of the first table.
+/// The full record of an element in linked blocks: its length, the bytes of the first block and of each later one, the blocks of
+/// a table, and the reference of the first table.
 pub fn linked_record(numbers: [u32; 4], table: u16) -> Vec<u8> {
     let [length, first, block, entries] = numbers;
     [[1, length, first, block, entries].map(u32::to_be_bytes).concat(), shorts(&[table])].concat()
+}
+
+/// The sparse one, as libhdf4 writes it, without the bytes of the first block.
+pub fn sparse_record(numbers: [u32; 3], table: u16) -> Vec<u8> {
+    [shorts(&[1]), numbers.map(u32::to_be_bytes).concat(), shorts(&[table])].concat()
 }
 
 /// A byte of the samples that the real files hold.

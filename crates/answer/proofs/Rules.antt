@@ -1,11 +1,11 @@
 -- A result that goes by rules is granted exactly if all of them hold, and refused exactly as the first broken one says. Assumes nothing.
 use Prim.Native.Nat.{ℕ, suc, _<_}
 use native.Mathlib.Nat.{suc-ne-zero}
-use mathlib.Core.Path.{_≡_, refl}
+use mathlib.Core.Path.{_≡_, refl, sym, _∙_}
 use mathlib.Core.Logic.{_↔_, _⊎_, inl, inr}
 use mathlib.Core.Bool.{Bool, true, false, false≢true}
 use Rattle.answer.specs.Search.{must}
-use Rattle.answer.specs.Rules.{Rules, done, rule, AllHold, FirstBroken}
+use Rattle.answer.specs.Rules.{Rules, done, rule, AllHold, FirstBroken, followed}
 
 -- every rule up to the first broken one is known to hold, and that one not to
 abbrev pub Decided : Rules → Type 0
@@ -89,6 +89,36 @@ tells-must place false m x Holds rest t r =
 pub tells-judged : (R : Rules) (place fault : ℕ) → Tells R place fault → AllHold R ⊎ ((n : ℕ) × FirstBroken R n place)
 tells-judged R place fault t =
     elim (judged R (t .decided)) [ inl a ↦ inl a | inr b ↦ inr (b .0, rw (t .refuses (b .0) (b .1) (b .2) .2) at (b .2)) ]
+
+-- ---- Rules, then others
+
+decided-then : (R S : Rules) → Decided R → (AllHold R → Decided S) → Decided (followed R S)
+decided-then done S d after = after tt
+decided-then (rule number place Holds rest) S (inl z) after = inl z
+decided-then (rule number place Holds rest) S (inr d) after = inr (d .0, decided-then rest S (d .1) (λ a. after (d .0, a)))
+
+all-then : (R S : Rules) → AllHold (followed R S) → AllHold R × AllHold S
+all-then done S a = (tt, a)
+all-then (rule number place Holds rest) S a = let r = all-then rest S (a .1) in ((a .0, r .0), r .1)
+
+broken-then : (R S : Rules) (n p : ℕ) → FirstBroken (followed R S) n p → FirstBroken R n p ⊎ (AllHold R × FirstBroken S n p)
+broken-then done S n p b = inr (tt, b)
+broken-then (rule number place Holds rest) S n p (inl b) = inl (inl b)
+broken-then (rule number place Holds rest) S n p (inr b) =
+    elim (broken-then rest S n p (b .1)) [ inl x ↦ inl (inr (b .0, x)) | inr x ↦ inr ((b .0, x .0), x .1) ]
+
+-- a number goes by the first ones, and where it is 0 a result by the others
+pub goes-then : (Granted : Type 0) (Refused : ℕ → ℕ → Type 0) (R S : Rules) (place fault : ℕ) → Tells R place fault → ((fault ≡ 0 → ⊥) → Refused fault place)
+    → (fault ≡ 0 → Goes S Granted Refused) → Goes (followed R S) Granted Refused
+goes-then Granted Refused R S place fault t broken onward =
+    record {
+      decided = decided-then R S (t .decided) (λ a. onward (t .grants a) .decided);
+      grants = λ a. let h = all-then R S a in onward (t .grants (h .0)) .grants (h .1);
+      refuses = λ n p b. elim (broken-then R S n p b) [
+        | inl x ↦ let f = t .refuses n p x in rw (← f .0, f .2) (broken (λ e. f .1 (sym (f .0) ∙ e)))
+        | inr x ↦ onward (t .grants (x .0)) .refuses n p (x .1)
+      ];
+    }
 
 -- ---- Numbers
 

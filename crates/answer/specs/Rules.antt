@@ -17,3 +17,8 @@ AllHold (rule number place Holds rest) = Holds × AllHold rest
 abbrev pub FirstBroken : Rules → ℕ → ℕ → Type 0
 FirstBroken done n p = ⊥
 FirstBroken (rule number place Holds rest) n p = ((n ≡ number) × (p ≡ place) × (Holds → ⊥)) ⊎ (Holds × FirstBroken rest n p)
+
+-- rules, then others
+abbrev pub followed : Rules → Rules → Rules
+followed done S = S
+followed (rule number place Holds rest) S = rule number place Holds (followed rest S)

@@ -93,7 +93,7 @@ pub const NO_TABLE: usize = 23;
 // Says: a table of the element's linked blocks is too short.
 pub const SHORT_TABLE: usize = 24;
 
-// A linked block is absent or extended, or its reference is 0; the index is the block's, through the whole element.
+// A linked block is absent or extended, or its reference is 0 by a record of 22 bytes; the index is the block's, through the whole element.
 // Says: a linked block of the element is not there.
 pub const NO_BLOCK: usize = 25;
 

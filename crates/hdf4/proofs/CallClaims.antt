@@ -9,7 +9,7 @@ use Rattle.wire.specs.Numbers.{part}
 use Rattle.storage.specs.Views.{bytesOf}
 use Rattle.storage.specs.Choices.{chosenBytes}
 use Rattle.storage.proofs.CopyRules.{copy-shape}
-use Rattle.hdf4.specs.Calls.{AnyCall, hdf4-open, hdf4-find, hdf4-list, hdf4-view, hdf4-copy, hdf4-choose, hdf4-add, hdf4-replace, hdf4-remove, hdf4-undo, hdf4-read-number-type, hdf4-read-dimension, hdf4-read-array, hdf4-read-group, hdf4-list-group, hdf4-read-vdata, hdf4-read-fields, hdf4-read-value, hdf4-pack, Memory, numbers, structs, contractOf, Untouched}
+use Rattle.hdf4.specs.Calls.{AnyCall, hdf4-open, hdf4-find, hdf4-list, hdf4-view, hdf4-size, hdf4-copy, hdf4-choose, hdf4-add, hdf4-replace, hdf4-remove, hdf4-undo, hdf4-read-number-type, hdf4-read-dimension, hdf4-read-array, hdf4-read-group, hdf4-list-group, hdf4-read-vdata, hdf4-read-fields, hdf4-read-value, hdf4-pack, Memory, numbers, structs, contractOf, Untouched}
 use Rattle.hdf4.proofs.Proper
 
 -- ---- Every call
@@ -25,6 +25,7 @@ shape (hdf4-open s) = (Proper.open-proper s, λ e. refl)
 shape (hdf4-find s tag ref) = (Proper.find-proper s tag ref, λ e. refl)
 shape (hdf4-list s table) = (Proper.list-proper s _, λ e. refl)
 shape (hdf4-view s tag ref) = (Proper.view-proper s tag ref, λ e. rw e)
+shape (hdf4-size s tag ref) = (Proper.size-proper s tag ref, λ e. refl)
 shape (hdf4-copy s tag ref out) = (copy-shape s tag ref _, λ e. refl)
 shape (hdf4-choose s t tag ref) = (Proper.choose-proper s t tag ref, λ e. rw e)
 shape (hdf4-add buffer n tag ref content) = (Proper.add-proper buffer n tag ref content, λ e. refl)

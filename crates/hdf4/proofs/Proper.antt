@@ -14,6 +14,7 @@ use Rattle.directory.specs.Descriptors.{listOf}
 use Rattle.directory.proofs.Faults.{opening-judged, sound-opens, faulty-refused}
 use Rattle.storage.specs.Elements.{elementAt, plainOnly, locatedAt, onPlain}
 use Rattle.storage.specs.Views.{viewOf}
+use Rattle.storage.specs.Sizes.{sizeOfStored, sizeFound, sizeOf}
 use Rattle.storage.specs.Choices.{chooseFound, chooseOf}
 use Rattle.storage.specs.declared.element.Element.{Element}
 use Rattle.storage.specs.declared.element.Element.the-variants.{Absent, Plain, Extended}
@@ -53,6 +54,15 @@ find-proper s tag ref = opened-proper 1 s _ (go (find s tag ref))
     go : (f : Hit) → Proper 1 (hitAnswer f)
     go (hit p) = proper-grant 1 _
     go miss = proper-refuse 1 11 0 (suc-ne-zero 10)
+
+pub size-proper : (s : List ℕ) (tag ref : ℕ) → Proper 1 (sizeOf s tag ref)
+unfolding sizeOf sizeOfStored
+size-proper s tag ref = opened-proper 1 s _ (go (elementAt s (find s tag ref)))
+  where
+    go : (x : Element) → Proper 1 (sizeFound s x)
+    go Absent = proper-refuse 1 11 0 (suc-ne-zero 10)
+    go (Plain p offset size) = proper-unless 1 _ _ _ (proper-grant 1 _)
+    go (Extended p) = proper-unless 1 _ _ _ (proper-grant 1 _)
 
 pub list-proper : (s : List ℕ) (room : ℕ) → Proper 1 (listOf s room)
 unfolding listOf

@@ -6,6 +6,7 @@ use Rattle.answer.specs.Answer.{Answer, Proper}
 use Rattle.answer.specs.Lent.{Does}
 use Rattle.journal.specs.Outcomes.{Outcome, outcomeAnswer, fileOf}
 use Rattle.hdf4.specs.declared.ViewAnswer.{ViewAnswer}
+use Rattle.hdf4.specs.declared.SizeAnswer.{SizeAnswer}
 use Rattle.hdf4.specs.declared.CopyAnswer.{CopyAnswer}
 use Rattle.hdf4.specs.declared.ChooseAnswer.{ChooseAnswer}
 use Rattle.hdf4.specs.declared.EditAnswer.{EditAnswer}
@@ -24,6 +25,9 @@ listAnswer r = record { number = r .number; place = r .place; values = r .elemen
 
 abbrev pub viewAnswer : ViewAnswer → Answer
 viewAnswer r = record { number = r .number; place = r .place; values = r .offset ∷ r .length ∷ [] }
+
+abbrev pub sizeAnswer : SizeAnswer → Answer
+sizeAnswer r = record { number = r .number; place = r .place; values = r .length ∷ [] }
 
 abbrev pub copyAnswer : CopyAnswer → Answer
 copyAnswer r = record { number = r .number; place = r .place; values = r .length ∷ r .index ∷ [] }

@@ -13,6 +13,7 @@ use Rattle.journal.specs.Outcomes.{Outcome, outcomeAnswer, fileOf}
 use Rattle.journal.specs.Buffers.{addIn, replaceIn, removeIn, undoIn}
 use Rattle.storage.specs.Elements.{startOf}
 use Rattle.storage.specs.Views.{viewOf, bytesOf}
+use Rattle.storage.specs.Sizes.{sizeOf}
 use Rattle.storage.specs.Copies.{copyOf, elementBytes, linkIndex}
 use Rattle.storage.specs.Choices.{chooseOf, chosenBytes}
 use Rattle.records.specs.Limits.{array-tag}
@@ -37,6 +38,7 @@ pub data AnyCall : Type 0 where
   hdf4-find : List ℕ → ℕ → ℕ → AnyCall
   hdf4-list : List ℕ → List ℕ → AnyCall
   hdf4-view : List ℕ → ℕ → ℕ → AnyCall
+  hdf4-size : List ℕ → ℕ → ℕ → AnyCall
   hdf4-copy : List ℕ → ℕ → ℕ → List ℕ → AnyCall
   hdf4-choose : List ℕ → List ℕ → ℕ → ℕ → AnyCall
   hdf4-add : List ℕ → ℕ → ℕ → ℕ → List ℕ → AnyCall
@@ -88,6 +90,7 @@ contractOf (hdf4-open s) = answering 3 (openOf s)
 contractOf (hdf4-find s tag ref) = answering 1 (findOf s tag ref)
 contractOf (hdf4-list s table) = filling 1 (listOf s (length table)) (numbers (elementsOf s) table ∷ [])
 contractOf (hdf4-view s tag ref) = giving 2 (viewOf s tag ref) (bytesOf s (viewOf s tag ref))
+contractOf (hdf4-size s tag ref) = answering 1 (sizeOf s tag ref)
 contractOf (hdf4-copy s tag ref out) =
     let answer = copyOf s tag ref (length out) in fillingCarrying 1 (linkIndex answer) answer (numbers (elementBytes s tag ref) out ∷ [])
 contractOf (hdf4-choose s t tag ref) = giving 3 (chooseOf s t tag ref) (chosenBytes s t (chooseOf s t tag ref))

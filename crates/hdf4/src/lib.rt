@@ -19,6 +19,7 @@ use directory::listing::Listed;
 use journal::Edited;
 use storage::choose::Chosen;
 use storage::copy::Copied;
+use storage::size::Sized;
 use storage::view::Viewed;
 ghost use mathlib.Core.Path.{_≡_};
 ghost use lib.ListN.{length};
@@ -27,11 +28,12 @@ ghost use Rattle.directory.specs.Opening.{openOf};
 ghost use Rattle.directory.specs.Lookup.{findOf};
 ghost use Rattle.directory.specs.Descriptors.{listOf, elementsOf};
 ghost use Rattle.storage.specs.Views.{viewOf};
+ghost use Rattle.storage.specs.Sizes.{sizeOf};
 ghost use Rattle.storage.specs.Copies.{copyOf, elementBytes};
 ghost use Rattle.storage.specs.Choices.{chooseOf};
 ghost use Rattle.journal.specs.Outcomes.{editedNumbers};
 ghost use Rattle.journal.specs.Buffers.{addIn, replaceIn, removeIn, undoIn};
-ghost use Rattle.hdf4.specs.Answers.{openAnswer, findAnswer, listAnswer, viewAnswer, copyAnswer, chooseAnswer, editAnswer, Tells, Edits};
+ghost use Rattle.hdf4.specs.Answers.{openAnswer, findAnswer, listAnswer, viewAnswer, sizeAnswer, copyAnswer, chooseAnswer, editAnswer, Tells, Edits};
 
 // What the directory of an image has.
 #[repr(C)]
@@ -71,6 +73,15 @@ pub struct ViewAnswer {
     pub place: u64,
     // Where the part starts in the image, 0 where the element has no bytes.
     pub offset: u64,
+    // Bytes of the element.
+    pub length: u64,
+}
+
+// How many bytes a copy of an element has.
+#[repr(C)]
+pub struct SizeAnswer {
+    pub number: u64,
+    pub place: u64,
     // Bytes of the element.
     pub length: u64,
 }
@@ -196,9 +207,30 @@ pub extern "C" fn hdf4_view(image: &[u8], tag: u16, reference: u16) -> ViewAnswe
     }
 }
 
-// Copies an element's bytes to the front of a lent output; the rest of it stays as it was. The element is plain or of linked blocks. Where a
-// table or a block is broken the refusal says which: its place is the element's slot, and its index that of the first one that a walk meets. The
-// output may not lie in the image.
+// Tells how many bytes hdf4_copy would write, and so how long its output must be. The element is plain or of linked blocks; their record is
+// judged, and their tables and blocks are not: hdf4_copy may still refuse these.
+#[no_mangle]
+pub extern "C" fn hdf4_size(image: &[u8], tag: u16, reference: u16) -> SizeAnswer
+    ensures { λ r. ⌜ sizeAnswer r ≡ sizeOf (now (image .entry)) tag reference ⌝ }
+{
+    let sized = storage::size::size(image, tag, reference);
+    match sized {
+        Sized::Bytes(bytes) => SizeAnswer {
+            number: 0,
+            place: 0,
+            length: bytes as u64,
+        },
+        Sized::Refused(r) => SizeAnswer {
+            number: r.number as u64,
+            place: r.place as u64,
+            length: 0,
+        },
+    }
+}
+
+// Copies an element's bytes to the front of a lent output; the rest of it stays as it was. The element is plain or of linked blocks, of which one
+// that was never written reads as zeros. Where a table or a block is broken the refusal says which: its place is the element's slot, and its
+// index that of the first one that a walk meets. The output may not lie in the image.
 #[no_mangle]
 pub extern "C" fn hdf4_copy(image: &[u8], tag: u16, reference: u16, out: &mut [u8]) -> CopyAnswer
     ensures { λ r. ⌜ Does (copyOf (now (image .entry)) tag reference (length (now (out .entry)))) (elementBytes (now (image .entry)) tag reference)

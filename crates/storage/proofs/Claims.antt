@@ -10,46 +10,27 @@ use lib.Seq.{take-at, drop-at}
 use Rattle.answer.specs.Refusals.{ABSENT, STORAGE}
 use Rattle.answer.specs.Answer.{grant, refuse, refuseCarrying}
 use Rattle.answer.specs.Rules.{AllHold, FirstBroken}
-use Rattle.answer.specs.Search.{Hit, hit, miss}
 use Rattle.answer.proofs.Tests.{same?}
 use Rattle.answer.proofs.Lent
 use Rattle.directory.specs.Slots.{sizeAt, contentAt}
 use Rattle.directory.specs.Opening.{openOf}
-use Rattle.directory.specs.Lookup.{find}
 use Rattle.directory.specs.Named.{Named}
 use Rattle.directory.proofs.Opens.{opened-goes, opened-stops}
-use Rattle.directory.proofs.Named.{found-named, named-found}
-use Rattle.storage.specs.Elements.{extendedAt, startAt, elementAt}
+use Rattle.storage.specs.Elements.{extendedAt, startAt}
 use Rattle.storage.specs.Views.{viewOf, bytesOf}
 use Rattle.storage.specs.Descriptions.{descriptionOf}
 use Rattle.storage.specs.Given.{blockRefs, given, Complete}
 use Rattle.storage.specs.Links.{copyRules, Unbroken, Broken}
 use Rattle.storage.specs.Copies.{inPlace, inBlocks, copyAt, copyOf, elementBytes, copyAfter}
 use Rattle.storage.specs.Choices.{chooseOf, chosenBytes}
-use Rattle.storage.specs.declared.element.Element.the-variants.{Absent, Plain, Extended}
-use Rattle.storage.proofs.Elements.{element-plain, element-extended, content-part}
+use Rattle.storage.proofs.Elements.{content-part}
+use Rattle.storage.proofs.Named.{named-absent, named-plain, named-extended}
+use Rattle.storage.proofs.Descriptions.{description-length}
 use Rattle.storage.proofs.Views
 use Rattle.storage.proofs.Choices
 use Rattle.storage.proofs.Copies
 use Rattle.storage.proofs.CopyRules
 use Rattle.storage.proofs.Given.{chain-given, chain-complete}
-
--- ---- What is found
-
-found-absent : (s : List ℕ) (tag ref : ℕ) → ((p : ℕ) → Named s tag ref p → ⊥) → elementAt s (find s tag ref) ≡ Absent
-unfolding elementAt
-found-absent s tag ref none = go (find s tag ref) refl
-  where
-    go : (h : Hit) → find s tag ref ≡ h → elementAt s h ≡ Absent
-    go (hit p) f = absurd (none p (found-named s tag ref p f))
-    go miss f = refl
-
-module _ (s : List ℕ) (tag ref p : ℕ) (opens : openOf s .number ≡ 0) (named : Named s tag ref p) where
-  found-plain : extendedAt s p ≡ false → elementAt s (find s tag ref) ≡ Plain p (startAt s p) (sizeAt s p)
-  found-plain e = ap (elementAt s) (named-found s tag ref p opens named) ∙ element-plain s p e
-
-  found-extended : extendedAt s p ≡ true → elementAt s (find s tag ref) ≡ Extended p
-  found-extended e = ap (elementAt s) (named-found s tag ref p opens named) ∙ element-extended s p e
 
 -- ---- View
 
@@ -57,18 +38,18 @@ module _ (s : List ℕ) (tag ref p : ℕ) (opens : openOf s .number ≡ 0) (name
 pub view-plain : (s : List ℕ) (tag ref p : ℕ) → openOf s .number ≡ 0 → Named s tag ref p → extendedAt s p ≡ false
     → (viewOf s tag ref ≡ grant (startAt s p ∷ sizeAt s p ∷ [])) × (bytesOf s (viewOf s tag ref) ≡ contentAt s p)
 view-plain s tag ref p opens named e =
-    let v = Views.view-goes s tag ref opens _ (found-plain s tag ref p opens named e) in
+    let v = Views.view-goes s tag ref opens _ (named-plain s tag ref p opens named e) in
     (v, Views.bytes-granted s (viewOf s tag ref) (startAt s p) (sizeAt s p) v ∙ sym (content-part s p))
 
 -- an extended element is refused at its slot: a view never gives its record
 pub view-extended : (s : List ℕ) (tag ref p : ℕ) → openOf s .number ≡ 0 → Named s tag ref p → extendedAt s p ≡ true
     → (viewOf s tag ref ≡ refuse 2 STORAGE p) × (bytesOf s (viewOf s tag ref) ≡ [])
 view-extended s tag ref p opens named e =
-    let v = Views.view-goes s tag ref opens _ (found-extended s tag ref p opens named e) in
+    let v = Views.view-goes s tag ref opens _ (named-extended s tag ref p opens named e) in
     (v, Views.bytes-refused s (viewOf s tag ref) (record { number = STORAGE; place = p }) v)
 
 pub view-absent : (s : List ℕ) (tag ref : ℕ) → openOf s .number ≡ 0 → ((p : ℕ) → Named s tag ref p → ⊥) → viewOf s tag ref ≡ refuse 2 ABSENT 0
-view-absent s tag ref opens none = Views.view-goes s tag ref opens _ (found-absent s tag ref none)
+view-absent s tag ref opens none = Views.view-goes s tag ref opens _ (named-absent s tag ref none)
 
 -- an image that does not open is refused as opening refuses it
 pub view-unopened : (s : List ℕ) (tag ref : ℕ) → (openOf s .number ≡ 0 → ⊥) → viewOf s tag ref ≡ refuse 2 (openOf s .number) (openOf s .place)
@@ -104,23 +85,24 @@ pub copy-unopened : (s : List ℕ) (tag ref room : ℕ) → (openOf s .number �
 copy-unopened = CopyRules.copy-closed
 
 pub copy-absent : (s : List ℕ) (tag ref room : ℕ) → openOf s .number ≡ 0 → ((p : ℕ) → Named s tag ref p → ⊥) → copyOf s tag ref room ≡ refuse 2 ABSENT 0
-copy-absent s tag ref room opens none = Copies.copy-goes s tag ref opens _ (found-absent s tag ref none) room
+copy-absent s tag ref room opens none = Copies.copy-goes s tag ref opens _ (named-absent s tag ref none) room
 
 -- an element in linked blocks, copied: the bytes are what the blocks of its tables give, one after the other, and as many as its record says
 pub copy-linked : (s : List ℕ) (tag ref p room : ℕ) → Named s tag ref p → extendedAt s p ≡ true → copyOf s tag ref room .number ≡ 0
-    → let d = descriptionOf (contentAt s p) in
+    → let d = descriptionOf s (contentAt s p) in
     (copyOf s tag ref room ≡ grant (d .length ∷ 0 ∷ []))
     × (length (elementBytes s tag ref) ≡ d .length)
     × ((tables : List ℕ) × Complete s d tables × (elementBytes s tag ref ≡ given s d 0 (d .length) (blockRefs s d tables)))
 unfolding inBlocks
 copy-linked s tag ref p room named e granted =
-    let d = descriptionOf (contentAt s p) in
+    let d = descriptionOf s (contentAt s p) in
     let x = inBlocks s (contentAt s p) in
     let g = Copies.granted-copy s tag ref room granted in
-    let f = found-extended s tag ref p (g .1 .sound) named e in
+    let f = named-extended s tag ref p (g .1 .sound) named e in
     let is = Copies.copy-goes s tag ref (g .1 .sound) _ f room in
     let h = Copies.copy-passed room p x (ap (λ a. a .number) (sym is) ∙ granted) in
-    let answers = is ∙ Copies.copy-granted room p x (h .0) (h .1) (h .2) in
+    let long = description-length (contentAt s p) s in
+    let answers = is ∙ Copies.copy-granted room p x (h .0) (h .1) (h .2) ∙ ap (λ n. grant (n ∷ 0 ∷ [])) (sym long) in
     let c = chain-given s d (h .2) in (
       answers,
       g .1 .holds ∙ ap (λ a. getD (a .values) 0 0) (sym (g .1 .answers) ∙ answers),
@@ -129,14 +111,14 @@ copy-linked s tag ref p room named e granted =
 
 module _ (s : List ℕ) (tag ref p room : ℕ) (opens : openOf s .number ≡ 0) (named : Named s tag ref p) (extended : extendedAt s p ≡ true) where
   linked-is : copyOf s tag ref room ≡ copyAt room p (inBlocks s (contentAt s p))
-  linked-is = Copies.copy-goes s tag ref opens _ (found-extended s tag ref p opens named extended) room
+  linked-is = Copies.copy-goes s tag ref opens _ (named-extended s tag ref p opens named extended) room
 
   -- it is copied exactly if its record keeps the rules, the buffer is long enough, and there are tables whose blocks give all its bytes
-  pub copy-linked-exactly : let d = descriptionOf (contentAt s p) in
+  pub copy-linked-exactly : let d = descriptionOf s (contentAt s p) in
       (copyOf s tag ref room .number ≡ 0) ↔ (AllHold (copyRules (contentAt s p) p room) × ((tables : List ℕ) × Complete s d tables))
   unfolding inBlocks
   copy-linked-exactly =
-      let d = descriptionOf (contentAt s p) in
+      let d = descriptionOf s (contentAt s p) in
       let x = inBlocks s (contentAt s p) in
       let ready = CopyRules.ready s opens (contentAt s p) p room in (
         (λ h. let c = Copies.copy-passed room p x (ap (λ a. a .number) (sym linked-is) ∙ h) in let g = chain-given s d (c .2) in (ready .0 (c .0, c .1), (g .0, g .1))),
@@ -144,7 +126,7 @@ module _ (s : List ℕ) (tag ref p room : ℕ) (opens : openOf s .number ≡ 0) 
       )
 
   -- which is so exactly if every table and block of which bytes are needed is sound
-  pub copy-unbroken : (copyOf s tag ref room .number ≡ 0) ↔ (AllHold (copyRules (contentAt s p) p room) × Unbroken s (descriptionOf (contentAt s p)))
+  pub copy-unbroken : (copyOf s tag ref room .number ≡ 0) ↔ (AllHold (copyRules (contentAt s p) p room) × Unbroken s (descriptionOf s (contentAt s p)))
   copy-unbroken = rw linked-is (CopyRules.granted-unbroken s opens (contentAt s p) p room)
 
   -- 12 and 13 are answered exactly for the record, and 14 for the buffer, at their places and with index 0
@@ -153,20 +135,20 @@ module _ (s : List ℕ) (tag ref p room : ℕ) (opens : openOf s .number ≡ 0) 
 
   -- 23 to 27 are answered with an index exactly if that is the first table or block that is broken, and in this way
   pub copy-broken : (n x : ℕ) → ((copyOf s tag ref room ≡ refuseCarrying 1 n p x) × (23 ≤ n))
-      ↔ (AllHold (copyRules (contentAt s p) p room) × Broken s (descriptionOf (contentAt s p)) n x)
+      ↔ (AllHold (copyRules (contentAt s p) p room) × Broken s (descriptionOf s (contentAt s p)) n x)
   copy-broken n x = rw linked-is (CopyRules.refused-broken s opens (contentAt s p) p room n x)
 
   -- there is no fourth case: each is granted, or refused for the record or the buffer, or for a table or block
-  pub copy-decided : let d = descriptionOf (contentAt s p) in
+  pub copy-decided : let d = descriptionOf s (contentAt s p) in
       let R = copyRules (contentAt s p) p room in
       (AllHold R × Unbroken s d) ⊎ (((n q : ℕ) × FirstBroken R n q) ⊎ (AllHold R × ((n x : ℕ) × Broken s d n x)))
   copy-decided = CopyRules.copy-decided s opens (contentAt s p) p room
 
   -- one of them is answered exactly where no tables give all its bytes: where the rules of a chain had one number
   pub copy-split : (23 ≤ copyOf s tag ref room .number)
-      ↔ (AllHold (copyRules (contentAt s p) p room) × ((tables : List ℕ) → Complete s (descriptionOf (contentAt s p)) tables → ⊥))
+      ↔ (AllHold (copyRules (contentAt s p) p room) × ((tables : List ℕ) → Complete s (descriptionOf s (contentAt s p)) tables → ⊥))
   copy-split =
-      let d = descriptionOf (contentAt s p) in
+      let d = descriptionOf s (contentAt s p) in
       let late = CopyRules.refused-late s opens (contentAt s p) p room in
       rw linked-is (
         (λ l. let h = late .0 l in (h .0, λ tables c. h .1 (chain-complete s d tables c))),
@@ -217,24 +199,24 @@ module _ (s t : List ℕ) (tag ref : ℕ) (opens : openOf s .number ≡ 0) (othe
     pub choose-current : extendedAt s p ≡ false
         → (chooseOf s t tag ref ≡ grant (1 ∷ startAt s p ∷ sizeAt s p ∷ [])) × (chosenBytes s t (chooseOf s t tag ref) ≡ contentAt s p)
     choose-current e =
-        let c = Choices.choose-current s t tag ref opens other _ (found-plain s tag ref p opens named e) refl in
+        let c = Choices.choose-current s t tag ref opens other _ (named-plain s tag ref p opens named e) refl in
         (c, Choices.bytes-current s t (chooseOf s t tag ref) (startAt s p) (sizeAt s p) c ∙ sym (content-part s p))
 
     pub choose-extended : extendedAt s p ≡ true → chooseOf s t tag ref ≡ refuse 3 STORAGE p
-    choose-extended e = Choices.choose-current s t tag ref opens other _ (found-extended s tag ref p opens named e) refl
+    choose-extended e = Choices.choose-current s t tag ref opens other _ (named-extended s tag ref p opens named e) refl
 
   -- where it has not, the fallback's
   module _ (none : (p : ℕ) → Named s tag ref p → ⊥) where
     pub choose-fallback : (p : ℕ) → Named t tag ref p → extendedAt t p ≡ false
         → (chooseOf s t tag ref ≡ grant (2 ∷ startAt t p ∷ sizeAt t p ∷ [])) × (chosenBytes s t (chooseOf s t tag ref) ≡ contentAt t p)
     choose-fallback p named e =
-        let c = Choices.choose-fallback s t tag ref opens other _ (found-absent s tag ref none) refl _ (found-plain t tag ref p other named e) in
+        let c = Choices.choose-fallback s t tag ref opens other _ (named-absent s tag ref none) refl _ (named-plain t tag ref p other named e) in
         (c, Choices.bytes-fallback s t (chooseOf s t tag ref) (startAt t p) (sizeAt t p) c ∙ sym (content-part t p))
 
     -- an extended element there is refused at its slot in the fallback
     pub choose-fallback-extended : (p : ℕ) → Named t tag ref p → extendedAt t p ≡ true → chooseOf s t tag ref ≡ refuse 3 STORAGE p
     choose-fallback-extended p named e =
-        Choices.choose-fallback s t tag ref opens other _ (found-absent s tag ref none) refl _ (found-extended t tag ref p other named e)
+        Choices.choose-fallback s t tag ref opens other _ (named-absent s tag ref none) refl _ (named-extended t tag ref p other named e)
 
     pub choose-absent : ((p : ℕ) → Named t tag ref p → ⊥) → chooseOf s t tag ref ≡ refuse 3 ABSENT 0
-    choose-absent neither = Choices.choose-fallback s t tag ref opens other _ (found-absent s tag ref none) refl _ (found-absent t tag ref neither)
+    choose-absent neither = Choices.choose-fallback s t tag ref opens other _ (named-absent s tag ref none) refl _ (named-absent t tag ref neither)

@@ -19,13 +19,14 @@ use Rattle.directory.specs.Opening.{openOf}
 use Rattle.directory.specs.Lookup.{find}
 use Rattle.directory.proofs.Opens.{opened-goes, opened-passed}
 use Rattle.storage.specs.Elements.{elementAt}
-use Rattle.storage.specs.Descriptions.{descriptionOf, recordFault}
+use Rattle.storage.specs.Descriptions.{descriptionOf, recordLength, recordFault}
 use Rattle.storage.specs.Walks.{chainOf}
 use Rattle.storage.specs.Copies.{Stored, inPlace, inBlocks, copyAt, copyFound, copyOf, bytesFound, elementBytes}
 use Rattle.storage.specs.declared.element.Element.{Element}
 use Rattle.storage.specs.declared.element.Element.the-variants.{Absent, Plain, Extended}
-use Rattle.storage.specs.declared.linked.Description.{Description}
+use Rattle.storage.specs.declared.description.Description.{Description}
 use Rattle.storage.proofs.Elements.{found-plain}
+use Rattle.storage.proofs.Descriptions.{description-length}
 use Rattle.storage.proofs.Walks.{chain-length}
 
 -- ---- The answer
@@ -95,27 +96,27 @@ module _ (s : List ℕ) (p : ℕ) (r out : List ℕ) where
   unfolding inBlocks
   blocks-record n e z = refuses _ _ out 2 _ (copy-record (length out) p (inBlocks s r) (λ q. z (e ∙ q)) ∙ rw e) z
 
-  module _ (sound : recordFault r ≡ 0) (d : Description) (is : d ≡ descriptionOf r) where
-    pub blocks-small : length out < d .length → InBlocks out (refuse 2 14 0)
+  module _ (sound : recordFault r ≡ 0) where
+    pub blocks-small : length out < recordLength r → InBlocks out (refuse 2 14 0)
     unfolding inBlocks
-    blocks-small h = refuses _ _ out 2 _ (copy-small (length out) p (inBlocks s r) sound (rw is at h)) (λ z. omega arith)
+    blocks-small h = refuses _ _ out 2 _ (copy-small (length out) p (inBlocks s r) sound h) (λ z. omega arith)
 
-    module _ (fits : d .length ≤ length out) where
+    module _ (fits : recordLength r ≤ length out) (d : Description) (is : d ≡ descriptionOf s r) where
       pub blocks-chain : (n i : ℕ) → n ≡ chainOf s d .fault → i ≡ chainOf s d .index → (n ≡ 0 → ⊥)
           → InBlocks out (carrying 1 (record { number = n; place = p; value = i }))
       unfolding inBlocks
       blocks-chain n i e q z =
-          let f : n ≡ chainOf s (descriptionOf r) .fault = rw is at e in
-          let g : i ≡ chainOf s (descriptionOf r) .index = rw is at q in
-          refusesWith _ _ out (carried 1 i) n p (copy-chain (length out) p (inBlocks s r) sound (rw is at fits) (λ h. z (f ∙ h)) ∙ rw (f, g)) z
+          let f : n ≡ chainOf s (descriptionOf s r) .fault = rw is at e in
+          let g : i ≡ chainOf s (descriptionOf s r) .index = rw is at q in
+          refusesWith _ _ out (carried 1 i) n p (copy-chain (length out) p (inBlocks s r) sound fits (λ h. z (f ∙ h)) ∙ rw (f, g)) z
 
       pub blocks-granted : chainOf s d .fault ≡ 0 → (after : List ℕ) → after ≡ put out 0 (chainOf s d .bytes) → InBlocks after (grant (d .length ∷ 0 ∷ []))
       unfolding inBlocks
       blocks-granted e after q =
-          let f : chainOf s (descriptionOf r) .fault ≡ 0 = rw is at e in
-          let n = chain-length s (descriptionOf r) f in
-          let room : descriptionOf r .length ≤ length out = rw is at fits in
-          rw is (grants _ _ out (descriptionOf r .length ∷ 0 ∷ []) (copy-granted (length out) p (inBlocks s r) sound room f) after ((rw is at q) ∙ put-front out _ (omega arith)))
+          let f : chainOf s (descriptionOf s r) .fault ≡ 0 = rw is at e in
+          let n = chain-length s (descriptionOf s r) f in
+          let l : d .length ≡ recordLength r = ap (λ x. x .length) is ∙ description-length r s in
+          rw l (grants _ _ out (recordLength r ∷ 0 ∷ []) (copy-granted (length out) p (inBlocks s r) sound fits f) after ((rw is at q) ∙ put-front out _ (omega (arith, description-length r s))))
 
 -- ---- The call, where the image opens
 
@@ -172,4 +173,4 @@ granted-copy s tag ref room e = go (elementAt s (find s tag ref)) refl
         (λ c. ap length (bytes-found s tag ref sound _ f) ∙ found-plain s tag ref p offset size sound f .long)
     go (Extended p) f =
         found p (inBlocks s (contentAt s p)) (copy-goes s tag ref sound _ f room)
-        (λ c. ap length (bytes-found s tag ref sound _ f) ∙ chain-length s (descriptionOf (contentAt s p)) c)
+        (λ c. ap length (bytes-found s tag ref sound _ f) ∙ chain-length s (descriptionOf s (contentAt s p)) c ∙ description-length (contentAt s p) s)

@@ -9,19 +9,18 @@ use lib.ListN.{length, getD}
 use lib.Dec.{leb}
 use borrow.Author.Tests.{le-leb, lt-leb}
 use Rattle.answer.specs.Answer.{Answer, grant, refuse, carried, refuseCarrying, ProperWith}
-use Rattle.answer.specs.Rules.{Rules, rule, AllHold, FirstBroken}
+use Rattle.answer.specs.Rules.{done, rule, AllHold, FirstBroken}
 use Rattle.answer.proofs.Tests.{on-true, on-false, same?, le?}
-use Rattle.answer.proofs.Rules.{Goes, goes-done, goes-rule, exactly}
-use Rattle.wire.specs.Numbers.{be}
+use Rattle.answer.proofs.Rules.{Goes, goes-done, goes-rule, goes-then, exactly}
 use Rattle.directory.specs.Slots.{contentAt}
 use Rattle.directory.specs.Opening.{openOf}
 use Rattle.directory.specs.Lookup.{find}
 use Rattle.directory.proofs.Faults.{open-below}
 use Rattle.directory.proofs.Opens.{opened-stops}
 use Rattle.storage.specs.Elements.{elementAt}
-use Rattle.storage.specs.Descriptions.{descriptionOf, recordFault}
+use Rattle.storage.specs.Descriptions.{descriptionOf, recordLength, recordFault}
 use Rattle.storage.specs.Walks.{chainOf}
-use Rattle.storage.specs.Links.{copyRules, Unbroken, Broken}
+use Rattle.storage.specs.Links.{recordRules, copyRules, Unbroken, Broken}
 use Rattle.storage.specs.Copies.{Stored, inPlace, inBlocks, copyAt, copyOf, linkIndex}
 use Rattle.storage.specs.declared.element.Element.{Element}
 use Rattle.storage.specs.declared.element.Element.the-variants.{Absent, Plain, Extended}
@@ -33,49 +32,35 @@ use Rattle.storage.proofs.Links.{chain-unbroken, chain-broken, broken-n
 
 -- the record keeps the rules, and the buffer has room
 abbrev Ready : List ℕ → ℕ → Type 0
-Ready r room = (recordFault r ≡ 0) × (descriptionOf r .length ≤ room)
+Ready r room = (recordFault r ≡ 0) × (recordLength r ≤ room)
 
 -- refused by them
 abbrev Early : List ℕ → List ℕ → ℕ → ℕ → ℕ → ℕ → Type 0
 Early s r p room n q = (copyAt room p (inBlocks s r) ≡ refuse 2 n q) × (n ≡ 0 → ⊥) × (n < 23)
 
 module _ (s : List ℕ) (opens : openOf s .number ≡ 0) (r : List ℕ) (p room : ℕ) where
-  by-fault : (n : ℕ) → recordFault r ≡ suc n → suc n < 23 → Early s r p room (suc n) p
-  unfolding inBlocks
-  by-fault n e l = (copy-record room p (inBlocks s r) (λ z. suc-ne-zero n (sym e ∙ z)) ∙ ap (λ m. refuse 2 m p) e, suc-ne-zero n, l)
-
-  judged-by : (number place : ℕ) (Holds : Type 0) (rest : Rules) → Holds ⊎ (Holds → ⊥) → ((Holds → ⊥) → Early s r p room number place)
-      → (Holds → Goes rest (Ready r room) (Early s r p room)) → Goes (rule number place Holds rest) (Ready r room) (Early s r p room)
-  judged-by = goes-rule (Ready r room) (Early s r p room)
-
   goes-by : Goes (copyRules r p room) (Ready r room) (Early s r p room)
-  unfolding descriptionOf inBlocks
+  unfolding inBlocks
   goes-by =
-      judged-by 13 p _ _ (le? 4 (length r)) (λ z. by-fault 12 (Descriptions.fault-short r (omega (arith, z))) (omega arith))
-      (λ kind. judged-by 12 p _ _ (same? (be 4 r 0) 1) (λ z. by-fault 11 (Descriptions.fault-kind r kind z) (omega arith))
-      (λ linked. judged-by 13 p _ _ (same? (length r) 22) (λ z. by-fault 12 (Descriptions.fault-size r kind linked z) (omega arith))
-      (λ whole. judged-by 13 p _ _ (le? 1 (be 4 r 8)) (λ z. by-fault 12 (Descriptions.fault-first r kind linked whole (omega (arith, z))) (omega arith))
-      (λ a. let first : be 4 r 8 ≡ 0 → ⊥ = λ e. omega (arith, a) in
-      judged-by 13 p _ _ (le? 1 (be 4 r 12)) (λ z. by-fault 12 (Descriptions.fault-block r kind linked whole first (omega (arith, z))) (omega arith))
-      (λ b. let block : be 4 r 12 ≡ 0 → ⊥ = λ e. omega (arith, b) in
-      judged-by 13 p _ _ (le? 1 (be 4 r 16)) (λ z. by-fault 12 (Descriptions.fault-entries r kind linked whole first block (omega (arith, z))) (omega arith))
-      (λ c. let sound : recordFault r ≡ 0 = Descriptions.fault-none r kind linked whole first block (λ e. omega (arith, c)) in
-      judged-by 14 0 _ _ (le? (be 4 r 4) room) (λ z. (copy-small room p (inBlocks s r) sound (omega (arith, z)), suc-ne-zero 13, omega arith))
-      (λ fits. goes-done (Ready r room) (Early s r p room) (sound, fits))))))))
+      goes-then (Ready r room) (Early s r p room) (recordRules r p) (rule 14 0 (recordLength r ≤ room) done) p (recordFault r) (Descriptions.record-tells r p)
+      (λ z. (copy-record room p (inBlocks s r) z, z, Descriptions.record-early r p))
+      (λ sound. goes-rule (Ready r room) (Early s r p room) 14 0 _ _ (le? (recordLength r) room)
+      (λ z. (copy-small room p (inBlocks s r) sound (omega (arith, z)), suc-ne-zero 13, omega arith))
+      (λ fits. goes-done (Ready r room) (Early s r p room) (sound, fits)))
 
   -- ---- The answer
 
   -- a fault of the chain has a number past theirs
-  chain-numbers : (chainOf s (descriptionOf r) .fault ≡ 0 → ⊥) → 23 ≤ chainOf s (descriptionOf r) .fault
+  pub chain-numbers : (chainOf s (descriptionOf s r) .fault ≡ 0 → ⊥) → 23 ≤ chainOf s (descriptionOf s r) .fault
   chain-numbers z =
-      let w = chainOf s (descriptionOf r) in
-      broken-numbers s (descriptionOf r) (w .fault) (w .index) (chain-broken s opens (descriptionOf r) (w .fault) (w .index) .0 (refl, refl, z))
+      let w = chainOf s (descriptionOf s r) in
+      broken-numbers s (descriptionOf s r) (w .fault) (w .index) (chain-broken s opens (descriptionOf s r) (w .fault) (w .index) .0 (refl, refl, z))
 
   -- past the record and the buffer it is granted, or refused by the chain
   apart : Ready r room → (n q : ℕ) → Early s r p room n q → ⊥
   unfolding inBlocks
   apart h n q e =
-      elim (same? (chainOf s (descriptionOf r) .fault) 0) [
+      elim (same? (chainOf s (descriptionOf s r) .fault) 0) [
         | inl z ↦ e .1 (ap (λ a. a .number) (sym (e .0) ∙ copy-granted room p (inBlocks s r) (h .0) (h .1) z))
         | inr z ↦
             let m = ap (λ a. a .number) (sym (e .0) ∙ copy-chain room p (inBlocks s r) (h .0) (h .1) z) in
@@ -91,19 +76,19 @@ module _ (s : List ℕ) (opens : openOf s .number ≡ 0) (r : List ℕ) (p room 
   pub refused-early : (n q : ℕ) → Early s r p room n q ↔ FirstBroken (copyRules r p room) n q
   refused-early = exactly (Ready r room) (Early s r p room) (copyRules r p room) goes-by apart one .1
 
-  pub granted-unbroken : (copyAt room p (inBlocks s r) .number ≡ 0) ↔ (AllHold (copyRules r p room) × Unbroken s (descriptionOf r))
+  pub granted-unbroken : (copyAt room p (inBlocks s r) .number ≡ 0) ↔ (AllHold (copyRules r p room) × Unbroken s (descriptionOf s r))
   unfolding inBlocks
   granted-unbroken = (
-    (λ e. let h = copy-passed room p (inBlocks s r) e in (ready .0 (h .0, h .1), chain-unbroken s opens (descriptionOf r) .0 (h .2))),
-    (λ h. let k = ready .1 (h .0) in ap (λ a. a .number) (copy-granted room p (inBlocks s r) (k .0) (k .1) (chain-unbroken s opens (descriptionOf r) .1 (h .1)))),
+    (λ e. let h = copy-passed room p (inBlocks s r) e in (ready .0 (h .0, h .1), chain-unbroken s opens (descriptionOf s r) .0 (h .2))),
+    (λ h. let k = ready .1 (h .0) in ap (λ a. a .number) (copy-granted room p (inBlocks s r) (k .0) (k .1) (chain-unbroken s opens (descriptionOf s r) .1 (h .1)))),
   )
 
   -- it is refused by a number past theirs exactly if the chain has a fault
-  pub refused-late : (23 ≤ copyAt room p (inBlocks s r) .number) ↔ (AllHold (copyRules r p room) × (chainOf s (descriptionOf r) .fault ≡ 0 → ⊥))
+  pub refused-late : (23 ≤ copyAt room p (inBlocks s r) .number) ↔ (AllHold (copyRules r p room) × (chainOf s (descriptionOf s r) .fault ≡ 0 → ⊥))
   unfolding inBlocks
   refused-late = (
     (λ l. elim (copy-case room p (inBlocks s r)) [
-      | by-record z ↦ absurd (early (recordFault r) (Descriptions.record-early r) (ap (λ a. a .number) (copy-record room p (inBlocks s r) z)) l)
+      | by-record z ↦ absurd (early (recordFault r) (Descriptions.record-early r p) (ap (λ a. a .number) (copy-record room p (inBlocks s r) z)) l)
       | by-room sound small ↦ absurd (early 14 (omega arith) (ap (λ a. a .number) (copy-small room p (inBlocks s r) sound small)) l)
       | granted sound fits c ↦ absurd (early 0 (omega arith) (ap (λ a. a .number) (copy-granted room p (inBlocks s r) sound fits c)) l)
       | by-chain sound fits z ↦ (ready .0 (sound, fits), z)
@@ -114,10 +99,10 @@ module _ (s : List ℕ) (opens : openOf s .number ≡ 0) (r : List ℕ) (p room 
       early : (n : ℕ) → n < 23 → copyAt room p (inBlocks s r) .number ≡ n → 23 ≤ copyAt room p (inBlocks s r) .number → ⊥
       early n l e h = omega (arith, e)
 
-  pub refused-broken : (n x : ℕ) → ((copyAt room p (inBlocks s r) ≡ refuseCarrying 1 n p x) × (23 ≤ n)) ↔ (AllHold (copyRules r p room) × Broken s (descriptionOf r) n x)
+  pub refused-broken : (n x : ℕ) → ((copyAt room p (inBlocks s r) ≡ refuseCarrying 1 n p x) × (23 ≤ n)) ↔ (AllHold (copyRules r p room) × Broken s (descriptionOf s r) n x)
   unfolding inBlocks
   refused-broken n x =
-      let chain = chain-broken s opens (descriptionOf r) n x in (
+      let chain = chain-broken s opens (descriptionOf s r) n x in (
         (λ h.
             let late = refused-late .0 (rw (h .0) (h .1)) in
             let k = ready .1 (late .0) in
@@ -127,20 +112,20 @@ module _ (s : List ℕ) (opens : openOf s .number ≡ 0) (r : List ℕ) (p room 
         (λ h.
             let k = ready .1 (h .0) in
             let c = chain .1 (h .1) in
-            (copy-chain room p (inBlocks s r) (k .0) (k .1) (λ q. c .2 (sym (c .0) ∙ q)) ∙ rw (c .0, c .1), broken-numbers s (descriptionOf r) n x (h .1))),
+            (copy-chain room p (inBlocks s r) (k .0) (k .1) (λ q. c .2 (sym (c .0) ∙ q)) ∙ rw (c .0, c .1), broken-numbers s (descriptionOf s r) n x (h .1))),
       )
 
   -- one of the three is so
-  pub copy-decided : (AllHold (copyRules r p room) × Unbroken s (descriptionOf r))
-      ⊎ (((n q : ℕ) × FirstBroken (copyRules r p room) n q) ⊎ (AllHold (copyRules r p room) × ((n x : ℕ) × Broken s (descriptionOf r) n x)))
+  pub copy-decided : (AllHold (copyRules r p room) × Unbroken s (descriptionOf s r))
+      ⊎ (((n q : ℕ) × FirstBroken (copyRules r p room) n q) ⊎ (AllHold (copyRules r p room) × ((n x : ℕ) × Broken s (descriptionOf s r) n x)))
   unfolding inBlocks
   copy-decided =
-      let w = chainOf s (descriptionOf r) in
+      let w = chainOf s (descriptionOf s r) in
       elim (copy-case room p (inBlocks s r)) [
-        | by-record z ↦ inr (inl (recordFault r, p, refused-early (recordFault r) p .0 (copy-record room p (inBlocks s r) z, z, Descriptions.record-early r)))
+        | by-record z ↦ inr (inl (recordFault r, p, refused-early (recordFault r) p .0 (copy-record room p (inBlocks s r) z, z, Descriptions.record-early r p)))
         | by-room sound small ↦ inr (inl (14, 0, refused-early 14 0 .0 (copy-small room p (inBlocks s r) sound small, suc-ne-zero 13, omega arith)))
-        | by-chain sound fits z ↦ inr (inr (ready .0 (sound, fits), (w .fault, w .index, chain-broken s opens (descriptionOf r) (w .fault) (w .index) .0 (refl, refl, z))))
-        | granted sound fits c ↦ inl (ready .0 (sound, fits), chain-unbroken s opens (descriptionOf r) .0 c)
+        | by-chain sound fits z ↦ inr (inr (ready .0 (sound, fits), (w .fault, w .index, chain-broken s opens (descriptionOf s r) (w .fault) (w .index) .0 (refl, refl, z))))
+        | granted sound fits c ↦ inl (ready .0 (sound, fits), chain-unbroken s opens (descriptionOf s r) .0 c)
       ]
 
 -- ---- The shape of the answer
@@ -190,7 +175,7 @@ plain-shaped s room p offset size a e = shaped-at room p (inPlace s offset size)
 linked-shaped : (s : List ℕ) → openOf s .number ≡ 0 → (room p : ℕ) (a : Answer) → a ≡ copyAt room p (inBlocks s (contentAt s p)) → Shaped a
 unfolding inBlocks
 linked-shaped s opens room p a e =
-    shaped-at room p (inBlocks s (contentAt s p)) a e (Descriptions.record-early (contentAt s p)) (chain-numbers s opens (contentAt s p) p room)
+    shaped-at room p (inBlocks s (contentAt s p)) a e (Descriptions.record-early (contentAt s p) p) (chain-numbers s opens (contentAt s p) p room)
 
 pub copy-closed : (s : List ℕ) (tag ref room : ℕ) → (openOf s .number ≡ 0 → ⊥) → copyOf s tag ref room ≡ refuse 2 (openOf s .number) (openOf s .place)
 unfolding copyOf

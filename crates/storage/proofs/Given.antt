@@ -6,31 +6,35 @@ use native.Mathlib.Omega.{arith}
 use mathlib.Core.Path.{_≡_, refl, sym, ap, _∙_}
 use mathlib.Core.Logic.{_↔_, inl, inr}
 use mathlib.Core.List.{List, [], _∷_, _++_, append-assoc}
-use mathlib.Core.Bool.{true, not}
+use mathlib.Core.Bool.{Bool, true, not}
 use lib.Dec.{eqb}
 use lib.ListN.{length}
 use borrow.Author.Tests.{leb-true, eqb-false, le-leb, ne-eqb, not-true}
 use Rattle.answer.specs.Search.{In, Pairwise}
-use Rattle.answer.proofs.Tests.{same?, in-left, in-right, in-snoc}
+use Rattle.answer.proofs.Tests.{test, not-both, same?, in-left, in-right, in-snoc}
 use Rattle.answer.proofs.Search.{passed, pass, any-none}
-use Rattle.storage.specs.Tables.{linkedAt, isThere, linkedBytes, nextTable, blockRef, linkFault, tableFault, linkedBlockFault, blockBytes}
+use Rattle.storage.specs.Tables.{linkedAt, isThere, linkedBytes, nextTable, blockRef, linkFault, tableFault, neverWritten, linkedBlockFault, blockBytes}
 use Rattle.storage.specs.Elements.{bytesAt}
 use Rattle.storage.specs.Walks.{share, blocksFrom, tablesFrom, chainOf}
 use Rattle.storage.specs.Given.{entriesOf, blockRefs, given, leftAfter, Holds, Sound, Chained, Complete}
 use Rattle.storage.specs.declared.element.Located.{Located}
 use Rattle.storage.specs.declared.element.Located.the-variants.{Plain, Refused}
-use Rattle.storage.specs.declared.linked.Description.{Description}
+use Rattle.storage.specs.declared.description.Description.{Description}
+use Rattle.storage.proofs.Tables.{unwritten-sound, unwritten-gives, written-fault, written-gives}
 use Rattle.storage.proofs.Walks.{share-less, blocks-none, blocks-full, blocks-fault, blocks-next, then-stops, then-goes, tables-full, tables-many, tables-fault, tables-next, tables-finish}
 
 -- ---- What blocks give
 
 -- once no bytes are left a block gives none
+none-of : (s : List ℕ) (sparse : Bool) (b : ℕ) → blockBytes s sparse b 0 ≡ []
+none-of s sparse b = elim (test (neverWritten sparse b)) [ inl u ↦ unwritten-gives s sparse b 0 u | inr w ↦ written-gives s sparse b 0 w ]
+
 given-none : (s : List ℕ) (d : Description) (index : ℕ) (bs : List ℕ) → given s d index 0 bs ≡ []
-unfolding given blockBytes
+unfolding given
 given-none s d index [] = refl
 given-none s d index (b ∷ bs) =
     let z : share d index 0 ≡ 0 = omega (arith, share-less d index 0) in
-    rw z (given-none s d (index + 1) bs)
+    rw (z, none-of s (d .sparse) b) (given-none s d (index + 1) bs)
 
 left-none : (d : Description) (index : ℕ) (bs : List ℕ) → leftAfter d index 0 bs ≡ 0
 unfolding leftAfter
@@ -51,9 +55,9 @@ given-append s d index left [] ys = ap (λ i. given s d i left ys) (sym (add-zer
 given-append s d index left (x ∷ xs) ys =
     let n = share d index left in
     let i : index + 1 + length xs ≡ index + suc (length xs) = omega arith in
-    ap (λ l. blockBytes s x n ++ l) (given-append s d (index + 1) (left - n) xs ys)
-    ∙ sym (append-assoc (blockBytes s x n) (given s d (index + 1) (left - n) xs) (given s d (index + 1 + length xs) (leftAfter d (index + 1) (left - n) xs) ys))
-    ∙ ap (λ j. blockBytes s x n ++ given s d (index + 1) (left - n) xs ++ given s d j (leftAfter d (index + 1) (left - n) xs) ys) i
+    ap (λ l. blockBytes s (d .sparse) x n ++ l) (given-append s d (index + 1) (left - n) xs ys)
+    ∙ sym (append-assoc (blockBytes s (d .sparse) x n) (given s d (index + 1) (left - n) xs) (given s d (index + 1 + length xs) (leftAfter d (index + 1) (left - n) xs) ys))
+    ∙ ap (λ j. blockBytes s (d .sparse) x n ++ given s d (index + 1) (left - n) xs ++ given s d j (leftAfter d (index + 1) (left - n) xs) ys) i
 
 left-append : (d : Description) (index left : ℕ) (xs ys : List ℕ) → leftAfter d index left (xs ++ ys) ≡ leftAfter d (index + length xs) (leftAfter d index left xs) ys
 unfolding leftAfter
@@ -78,13 +82,24 @@ sound-append s d index left (x ∷ xs) ys =
 -- ---- The blocks of a table
 
 -- what a block without fault keeps
-block-kept : (s : List ℕ) (b count : ℕ) → linkedBlockFault s b count ≡ 0 → Holds s b count
-unfolding linkedBlockFault linkFault
-block-kept s b count e = let h = passed _ _ _ e in (h .0, leb-true _ _ (passed _ _ _ (h .1) .0))
+block-kept : (s : List ℕ) (sparse : Bool) (b count : ℕ) → linkedBlockFault s sparse b count ≡ 0 → Holds s sparse b count
+unfolding linkFault
+block-kept s sparse b count e =
+    elim (test (neverWritten sparse b)) [
+      | inl u ↦ inl u
+      | inr w ↦ let h = passed _ _ _ (sym (written-fault s sparse b count w) ∙ e) in inr (h .0, leb-true _ _ (passed _ _ _ (h .1) .0))
+    ]
 
-kept-block : (s : List ℕ) (b count : ℕ) → Holds s b count → linkedBlockFault s b count ≡ 0
-unfolding linkedBlockFault linkFault
-kept-block s b count h = pass _ _ _ (h .0) (pass _ _ _ (le-leb count (length (linkedBytes s b)) (h .1)) refl)
+kept-block : (s : List ℕ) (sparse : Bool) (b count : ℕ) → Holds s sparse b count → linkedBlockFault s sparse b count ≡ 0
+unfolding linkFault
+kept-block s sparse b count h =
+    elim (test (neverWritten sparse b)) [
+      | inl u ↦ unwritten-sound s sparse b count u
+      | inr w ↦ elim h [
+        | inl u ↦ absurd (not-both (neverWritten sparse b) w u)
+        | inr k ↦ written-fault s sparse b count w ∙ pass _ _ _ (k .0) (pass _ _ _ (le-leb count (length (linkedBytes s b)) (k .1)) refl)
+      ]
+    ]
 
 length-entries : (t : List ℕ) (k entry : ℕ) → length (entriesOf t k entry) ≡ k
 unfolding entriesOf
@@ -106,13 +121,13 @@ blocks-given s d t (suc k) entry index left e =
             ap (λ x. x .left) w ∙ z ∙ sym (ap (λ n. leftAfter d index n bs) z ∙ left-none d index bs),
             sound-none s d index left bs z,
           )
-      | inr z ↦ elim (same? (linkedBlockFault s (blockRef t entry) (share d index left)) 0) [
+      | inr z ↦ elim (same? (linkedBlockFault s (d .sparse) (blockRef t entry) (share d index left)) 0) [
         | inr f ↦ absurd (f (ap (λ x. x .fault) (sym (blocks-fault s d t entry index left k z f)) ∙ e))
         | inl q ↦
             let n = share d index left in
             let w = blocks-next s d t entry index left k z q in
             let h = blocks-given s d t k (entry + 1) (index + 1) (left - n) (ap (λ x. x .fault) (sym w) ∙ e) in
-            (ap (λ x. x .bytes) w ∙ ap (λ l. blockBytes s (blockRef t entry) n ++ l) (h .0), ap (λ x. x .left) w ∙ h .1, ((λ l. block-kept s (blockRef t entry) n q), h .2))
+            (ap (λ x. x .bytes) w ∙ ap (λ l. blockBytes s (d .sparse) (blockRef t entry) n ++ l) (h .0), ap (λ x. x .left) w ∙ h .1, ((λ l. block-kept s (d .sparse) (blockRef t entry) n q), h .2))
       ]
     ]
 
@@ -124,7 +139,7 @@ sound-blocks s d t (suc k) entry index left h =
     elim (same? left 0) [
       | inl z ↦ ap (λ x. x .fault) (blocks-full s d t entry index left (suc k) z)
       | inr z ↦
-          ap (λ x. x .fault) (blocks-next s d t entry index left k z (kept-block s (blockRef t entry) (share d index left) (h .0 (omega arith))))
+          ap (λ x. x .fault) (blocks-next s d t entry index left k z (kept-block s (d .sparse) (blockRef t entry) (share d index left) (h .0 (omega arith))))
           ∙ sound-blocks s d t k (entry + 1) (index + 1) (left - share d index left) (h .1)
     ]
 

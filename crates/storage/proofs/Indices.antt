@@ -13,13 +13,13 @@ use Rattle.answer.proofs.Links.{link-next, links-snoc, length-links}
 use Rattle.storage.specs.Tables.{linkedBytes, nextTable, blockRef, nextOf, tablesAfter, tableFault, linkedBlockFault}
 use Rattle.storage.specs.Walks.{share, Walk, joined, blocksFrom, tablesFrom, chainOf}
 use Rattle.storage.specs.Links.{tableAt, blockAt, bytesBefore, Needed, taken}
-use Rattle.storage.specs.declared.linked.Description.{Description}
+use Rattle.storage.specs.declared.description.Description.{Description}
 use Rattle.storage.proofs.Walks.{blocks-none, blocks-full, blocks-fault, blocks-next, then-stops, then-goes, tables-full, tables-many, tables-fault, tables-next}
 
 -- ---- What is left
 
 -- how many bytes are left where block j begins
-abbrev leftAt : Description → ℕ → ℕ
+abbrev pub leftAt : Description → ℕ → ℕ
 leftAt d j = d .length - bytesBefore d j
 
 left-suc : (d : Description) (j : ℕ) → leftAt d j - share d j (leftAt d j) ≡ leftAt d (suc j)
@@ -33,16 +33,16 @@ left-suc d (suc j) =
     let next : bytesBefore d (suc (suc j)) ≡ d .first + suc j * d .block = refl in
     omega (arith, suc-mul j (d .block))
 
-left-next : (d : Description) (j : ℕ) → leftAt d j - share d j (leftAt d j) ≡ leftAt d (j + 1)
+pub left-next : (d : Description) (j : ℕ) → leftAt d j - share d j (leftAt d j) ≡ leftAt d (j + 1)
 left-next d j = rw add-one (left-suc d j)
 
-before-mono : (d : Description) (j k : ℕ) → j ≤ k → bytesBefore d j ≤ bytesBefore d k
+pub before-mono : (d : Description) (j k : ℕ) → j ≤ k → bytesBefore d j ≤ bytesBefore d k
 unfolding bytesBefore
 before-mono d zero k h = omega arith
 before-mono d (suc j) zero h = absurd (omega arith)
 before-mono d (suc j) (suc k) h = omega (arith, mul-le-mul-right {m = j} {n = k} (d .block) (omega arith))
 
-needed-before : (d : Description) (j k : ℕ) → j ≤ k → Needed d k → Needed d j
+pub needed-before : (d : Description) (j k : ℕ) → j ≤ k → Needed d k → Needed d j
 needed-before d j k h n = omega (arith, before-mono d j k h)
 
 module _ (s : List ℕ) (d : Description) where
@@ -51,10 +51,10 @@ module _ (s : List ℕ) (d : Description) where
   tableNumber i = tableFault s d (tablesAfter s i (d .table)) (tableAt s d i)
 
   abbrev pub blockNumber : ℕ → ℕ
-  blockNumber j = linkedBlockFault s (blockAt s d j) (taken d j)
+  blockNumber j = linkedBlockFault s (d .sparse) (blockAt s d j) (taken d j)
 
   -- an entry of table i names a block
-  block-entry : (i entry : ℕ) → entry < d .entries → blockAt s d (i * d .entries + entry) ≡ blockRef (linkedBytes s (tableAt s d i)) entry
+  pub block-entry : (i entry : ℕ) → entry < d .entries → blockAt s d (i * d .entries + entry) ≡ blockRef (linkedBytes s (tableAt s d i)) entry
   block-entry i entry h =
       let j = i * d .entries + entry in
       let quotient : j / d .entries ≡ i = div-eq-of-lt-le (d .entries) (omega arith) (omega (arith, suc-mul i (d .entries))) in
@@ -64,13 +64,13 @@ module _ (s : List ℕ) (d : Description) where
   -- ---- The blocks of a table
 
   -- what a walk over the blocks from j up to an end comes to: none breaks a rule, or the first that does
-  record Passed (w : Walk) (j end : ℕ) : Type 0 where
-    fault : w .fault ≡ 0
-    left : w .left ≡ leftAt d end
+  pub record Passed (w : Walk) (j end : ℕ) : Type 0 where
+    pub fault : w .fault ≡ 0
+    pub left : w .left ≡ leftAt d end
     blocks : (m : ℕ) → j ≤ m → m < end → Needed d m → blockNumber m ≡ 0
 
-  record Stopped (w : Walk) (j end : ℕ) : Type 0 where
-    fault : w .fault ≡ 0 → ⊥
+  pub record Stopped (w : Walk) (j end : ℕ) : Type 0 where
+    pub fault : w .fault ≡ 0 → ⊥
     from : j ≤ w .index
     below : w .index < end
     needed : Needed d (w .index)
@@ -98,7 +98,7 @@ module _ (s : List ℕ) (d : Description) where
           number = rw (index, fault) (p .number);
         }
 
-  blocks-judged : (i k entry j left : ℕ) → entry + k ≡ d .entries → j ≡ i * d .entries + entry → left ≡ leftAt d j
+  pub blocks-judged : (i k entry j left : ℕ) → entry + k ≡ d .entries → j ≡ i * d .entries + entry → left ≡ leftAt d j
       → let w = blocksFrom s d (linkedBytes s (tableAt s d i)) k entry j left in
       let end = i * d .entries + d .entries in Passed w j end ⊎ Stopped w j end
   blocks-judged i zero entry j left upto at e =
@@ -118,13 +118,13 @@ module _ (s : List ℕ) (d : Description) where
               blocks = λ m l u n. absurd (omega (arith, needed-before d j m l n));
             })
         | inr z ↦
-            let number : blockNumber j ≡ linkedBlockFault s (blockRef t entry) (share d j left) =
-            ap (λ r. linkedBlockFault s r (taken d j)) (ap (blockAt s d) at ∙ block-entry i entry (omega arith)) ∙ ap (λ n. linkedBlockFault s (blockRef t entry) (share d j n)) (sym e) in
-            elim (same? (linkedBlockFault s (blockRef t entry) (share d j left)) 0) [
+            let number : blockNumber j ≡ linkedBlockFault s (d .sparse) (blockRef t entry) (share d j left) =
+            ap (λ r. linkedBlockFault s (d .sparse) r (taken d j)) (ap (blockAt s d) at ∙ block-entry i entry (omega arith)) ∙ ap (λ n. linkedBlockFault s (d .sparse) (blockRef t entry) (share d j n)) (sym e) in
+            elim (same? (linkedBlockFault s (d .sparse) (blockRef t entry) (share d j left)) 0) [
               | inr f ↦
                   let w = blocks-fault s d t entry j left k z f in
                   let at-j : blocksFrom s d t (suc k) entry j left .index ≡ j = ap (λ x. x .index) w in
-                  let its : blocksFrom s d t (suc k) entry j left .fault ≡ linkedBlockFault s (blockRef t entry) (share d j left) = ap (λ x. x .fault) w in
+                  let its : blocksFrom s d t (suc k) entry j left .fault ≡ linkedBlockFault s (d .sparse) (blockRef t entry) (share d j left) = ap (λ x. x .fault) w in
                   inr (record {
                     fault = λ q. f (sym its ∙ q);
                     from = omega (arith, at-j);

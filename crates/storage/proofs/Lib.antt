@@ -1,5 +1,6 @@
 pub mod Elements
 pub mod Found
+pub mod Named
 pub mod Views
 pub mod Choices
 pub mod Descriptions
@@ -9,7 +10,12 @@ pub mod Steps
 pub mod Given
 pub mod Indices
 pub mod Links
+pub mod Bytes
 pub mod Copies
+pub mod Sizes
 pub mod CopyRules
+pub mod Before
 pub mod Claims
+pub mod LayoutClaims
+pub mod SizeClaims
 pub mod Cases

@@ -9,31 +9,32 @@ use mathlib.Core.Bool.{true, false, false≢true}
 use lib.Dec.{eqb}
 use borrow.Author.Tests.{eqb-true, eq-eqb, ne-eqb}
 use Rattle.answer.specs.Search.{any}
-use Rattle.answer.proofs.Tests.{test, same?, le?}
+use Rattle.answer.proofs.Tests.{and-split, and-both, not-both, test, same?, le?}
 use Rattle.answer.proofs.Search.{any-some, any-in}
 use Rattle.answer.proofs.Links.{link-in, in-links, along-none}
 use Rattle.directory.specs.Slots.{sizeAt}
 use Rattle.directory.specs.Opening.{openOf}
-use Rattle.directory.proofs.Named.{found-named, named-found}
+use Rattle.directory.proofs.Named.{found-named}
 use Rattle.storage.specs.Limits.{linked-tag}
-use Rattle.storage.specs.Elements.{startAt, elementAt, plainOnly}
-use Rattle.storage.specs.Tables.{linkedAt, isThere, nextOf, tablesAfter, linkFault, linkedBlockFault}
+use Rattle.storage.specs.Elements.{startAt, plainOnly}
+use Rattle.storage.specs.Tables.{linkedAt, isThere, nextOf, tablesAfter, linkFault, neverWritten}
 use Rattle.storage.specs.Walks.{chainOf}
-use Rattle.storage.specs.Links.{tableAt, blockAt, taken, LinkSlot, New, SoundTable, SoundBlock, Unbroken, ReachesTable, ReachesBlock, TableLoop, Broken, no-table, short-table, no-block, short-block, table-loop}
+use Rattle.storage.specs.Links.{tableAt, blockAt, taken, LinkSlot, New, SoundTable, Unwritten, SoundBlock, Unbroken, ReachesTable, ReachesBlock, TableLoop, Broken, no-table, short-table, no-block, short-block, table-loop}
 use Rattle.storage.specs.Steps.{There}
 use Rattle.storage.specs.declared.element.Located.{Located}
 use Rattle.storage.specs.declared.element.Located.the-variants.{Plain, Refused}
-use Rattle.storage.specs.declared.linked.Description.{Description}
-use Rattle.storage.proofs.Elements.{element-plain, found-plain, located-element}
-use Rattle.storage.proofs.Tables.{linked-zero, linked-find, linked-there, link-absent, link-short, link-none, table-twice, table-fresh}
+use Rattle.storage.specs.declared.description.Description.{Description}
+use Rattle.storage.proofs.Elements.{found-plain, located-element}
+use Rattle.storage.proofs.Named.{named-plain}
+use Rattle.storage.proofs.Tables.{linked-zero, linked-find, linked-there, link-absent, link-short, link-none, unwritten-sound, written-fault, table-twice, table-fresh}
 use Rattle.storage.proofs.Indices
 
 module _ (s : List ℕ) (opens : openOf s .number ≡ 0) where
   -- ---- A table or block with a reference
 
-  slot-there : (ref p : ℕ) → LinkSlot s ref p → There s ref (startAt s p) (sizeAt s p)
+  pub slot-there : (ref p : ℕ) → LinkSlot s ref p → There s ref (startAt s p) (sizeAt s p)
   slot-there ref p l =
-      let found : elementAt s _ ≡ _ = ap (elementAt s) (named-found s linked-tag ref p opens (l .named)) ∙ element-plain s p (l .plain) in
+      let found = named-plain s linked-tag ref p opens (l .named) (l .plain) in
       linked-there s ref p (startAt s p) (sizeAt s p) opens (linkedAt s ref) refl (linked-find s ref (l .not-zero) ∙ ap plainOnly found)
 
   -- one that is there, by its slot, or none
@@ -130,18 +131,44 @@ module _ (s : List ℕ) (opens : openOf s .number ≡ 0) where
 
     -- ---- Block j
 
+    -- it was never written, or its fault is that of the block with its reference
+    data Block (j : ℕ) : Type 0 where
+      unwritten : Unwritten s d j → Indices.blockNumber s d j ≡ 0 → Block j
+      written : (Unwritten s d j → ⊥) → Indices.blockNumber s d j ≡ linkFault s (blockAt s d j) (taken d j) 25 26 → Block j
+
+    block : (j : ℕ) → Block j
+    block j =
+        let ref = blockAt s d j in
+        elim (test (neverWritten (d .sparse) ref)) [
+          | inl u ↦
+              let both = and-split (d .sparse) (eqb ref 0) u in
+              unwritten (record { allowed = both .0; none = eqb-true ref 0 (both .1) }) (unwritten-sound s (d .sparse) ref (taken d j) u)
+          | inr w ↦
+              written (λ u. not-both (neverWritten (d .sparse) ref) w (and-both (d .sparse) (eqb ref 0) (u .allowed) (eq-eqb ref 0 (u .none))))
+              (written-fault s (d .sparse) ref (taken d j) w)
+        ]
+
     module _ (j : ℕ) where
+      written-number : (Unwritten s d j → ⊥) → Indices.blockNumber s d j ≡ linkFault s (blockAt s d j) (taken d j) 25 26
+      written-number z = elim (block j) [ unwritten u e ↦ absurd (z u) | written w e ↦ e ]
+
+      -- a block that is there was written
+      slot-number : (p : ℕ) → LinkSlot s (blockAt s d j) p → Indices.blockNumber s d j ≡ linkFault s (blockAt s d j) (taken d j) 25 26
+      slot-number p l = written-number (λ u. l .not-zero (u .none))
+
       block-sound : Indices.blockNumber s d j ≡ 0 → SoundBlock s d j
-      unfolding linkedBlockFault
-      block-sound e = elim (find (blockAt s d j) (taken d j) 25 26) [
-        | sound p l h g ↦ record { slot = p; linked = l; long = h }
-        | missing n g ↦ absurd (suc-ne-zero 24 (sym g ∙ e))
-        | cut p l h g ↦ absurd (suc-ne-zero 25 (sym g ∙ e))
+      block-sound e = elim (block j) [
+        | unwritten u f ↦ inr u
+        | written w f ↦ elim (find (blockAt s d j) (taken d j) 25 26) [
+          | sound p l h g ↦ inl (record { slot = p; linked = l; long = h })
+          | missing n g ↦ absurd (suc-ne-zero 24 (sym (f ∙ g) ∙ e))
+          | cut p l h g ↦ absurd (suc-ne-zero 25 (sym (f ∙ g) ∙ e))
+        ]
       ]
 
       sound-block : SoundBlock s d j → Indices.blockNumber s d j ≡ 0
-      unfolding linkedBlockFault
-      sound-block b = sound-number (blockAt s d j) (taken d j) 25 26 (b .slot) (b .linked) (b .long)
+      sound-block (inl b) = slot-number (b .slot) (b .linked) ∙ sound-number (blockAt s d j) (taken d j) 25 26 (b .slot) (b .linked) (b .long)
+      sound-block (inr u) = elim (block j) [ unwritten v e ↦ e | written w e ↦ absurd (w u) ]
 
     -- ---- All of them
 
@@ -208,12 +235,14 @@ module _ (s : List ℕ) (opens : openOf s .number ≡ 0) where
         ]
 
     block-first : (n j : ℕ) → Indices.AtBlock s d n j → Broken s d n j
-    unfolding linkedBlockFault
     block-first n j t =
-        elim (find (blockAt s d j) (taken d j) 25 26) [
-          | sound p l h g ↦ absurd (t .fault (sym (t .number) ∙ g))
-          | missing h g ↦ no-block (sym (t .number) ∙ g) (record { reached = reached-block n j t; missing = h })
-          | cut p l h g ↦ short-block (sym (t .number) ∙ g) (record { reached = reached-block n j t; slot = p; linked = l; short = h })
+        elim (block j) [
+          | unwritten u e ↦ absurd (t .fault (sym (t .number) ∙ e))
+          | written w e ↦ elim (find (blockAt s d j) (taken d j) 25 26) [
+            | sound p l h g ↦ absurd (t .fault (sym (t .number) ∙ e ∙ g))
+            | missing h g ↦ no-block (sym (t .number) ∙ e ∙ g) (record { reached = reached-block n j t; meant = w; missing = h })
+            | cut p l h g ↦ short-block (sym (t .number) ∙ e ∙ g) (record { reached = reached-block n j t; slot = p; linked = l; short = h })
+          ]
         ]
 
     loop-first : (i : ℕ) → TableLoop s d i → Indices.First s d 27 i
@@ -230,16 +259,15 @@ module _ (s : List ℕ) (opens : openOf s .number ≡ 0) where
         ]
 
     broken-first : (n x : ℕ) → Broken s d n x → Indices.First s d n x
-    unfolding linkedBlockFault
     broken-first n x (no-table e h) =
         rw e (at-table 23 x (suc-ne-zero 22) (h .reached)
         (inl (h .new .few, new-number x (h .new) ∙ missing-number (tableAt s d x) (2 + 2 * d .entries) 23 24 (h .missing))))
     broken-first n x (short-table e h) =
         rw e (at-table 24 x (suc-ne-zero 23) (h .reached)
         (inl (h .new .few, new-number x (h .new) ∙ cut-number (tableAt s d x) (2 + 2 * d .entries) 23 24 (h .slot) (h .linked) (h .short))))
-    broken-first n x (no-block e h) = rw e (at-block 25 x (suc-ne-zero 24) (h .reached) (missing-number (blockAt s d x) (taken d x) 25 26 (h .missing)))
+    broken-first n x (no-block e h) = rw e (at-block 25 x (suc-ne-zero 24) (h .reached) (written-number x (h .meant) ∙ missing-number (blockAt s d x) (taken d x) 25 26 (h .missing)))
     broken-first n x (short-block e h) =
-        rw e (at-block 26 x (suc-ne-zero 25) (h .reached) (cut-number (blockAt s d x) (taken d x) 25 26 (h .slot) (h .linked) (h .short)))
+        rw e (at-block 26 x (suc-ne-zero 25) (h .reached) (slot-number x (h .slot) (h .linked) ∙ cut-number (blockAt s d x) (taken d x) 25 26 (h .slot) (h .linked) (h .short)))
     broken-first n x (table-loop e h) = rw e (loop-first x h)
 
     -- ---- The chain

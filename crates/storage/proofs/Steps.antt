@@ -15,15 +15,15 @@ use Rattle.answer.specs.Search.{any}
 use Rattle.answer.specs.Links.{linkAfter, linksAfter}
 use Rattle.answer.proofs.Tests.{same?}
 use Rattle.answer.proofs.Links.{link-next, links-snoc, length-links, along-none}
-use Rattle.wire.specs.Numbers.{part, put}
-use Rattle.wire.proofs.Numbers.{put-put, length-put, length-part}
-use Rattle.storage.specs.Tables.{nextOf, tableAfter, tablesAfter, linkedBytes, nextTable, blockRef, tableFault, linkedBlockFault}
+use Rattle.wire.specs.Numbers.{put}
+use Rattle.wire.proofs.Numbers.{put-put, length-put}
+use Rattle.storage.specs.Tables.{nextOf, tableAfter, tablesAfter, linkedBytes, nextTable, blockRef, tableFault, linkedBlockFault, blockBytes}
 use Rattle.storage.specs.Walks.{share, Walk, breaks, joined, andThen, blocksFrom, tablesFrom, chainOf}
-use Rattle.storage.specs.Steps.{There, nextFault, Marked, Took}
-use Rattle.storage.specs.declared.linked.Description.{Description}
+use Rattle.storage.specs.Steps.{nextFault, Marked, Took}
+use Rattle.storage.specs.declared.description.Description.{Description}
 use Rattle.storage.specs.declared.linked.Walked.{Walked}
-use Rattle.storage.proofs.Tables.{block-gives, next-many, next-few}
-use Rattle.storage.proofs.Walks.{share-less, blocks-none, blocks-full, blocks-fault, blocks-next, blocks-total, then-stops, then-goes, tables-full, tables-many, tables-fault, tables-next}
+use Rattle.storage.proofs.Tables.{next-many, next-few}
+use Rattle.storage.proofs.Walks.{share-less, blocks-none, blocks-full, blocks-fault, blocks-next, block-passed, blocks-total, then-stops, then-goes, tables-full, tables-many, tables-fault, tables-next}
 
 put-none : (s : List ℕ) (at : ℕ) → put s at [] ≡ s
 unfolding put
@@ -73,41 +73,45 @@ module _ (s : List ℕ) (d : Description) (t : List ℕ) (first missing : ℕ) (
     fuel : d .entries - entry ≡ suc (d .entries - (entry + 1))
     fuel = omega arith
 
-    pub taken-fault : (n : ℕ) → n ≡ linkedBlockFault s (blockRef t entry) (share d (first + entry) left) → (n ≡ 0 → ⊥)
+    pub taken-fault : (n : ℕ) → n ≡ linkedBlockFault s (d .sparse) (blockRef t entry) (share d (first + entry) left) → (n ≡ 0 → ⊥)
         → Took (blocksFrom s d t (d .entries) 0 first missing) (d .length - missing) out₀ out (record { left = left; fault = n; index = first + entry })
     taken-fault n e z =
         stopped n (first + entry) (ap (λ k. blocksFrom s d t k entry (first + entry) left) fuel
         ∙ blocks-fault s d t entry (first + entry) left (d .entries - (entry + 1)) missed (λ q. z (e ∙ q))
         ∙ ap (λ m. breaks m (first + entry) left) (sym e))
 
-    module _ (good : linkedBlockFault s (blockRef t entry) (share d (first + entry) left) ≡ 0) (offset size : ℕ) (p : There s (blockRef t entry) offset size)
-        (enough : share d (first + entry) left ≤ size) where
+    module _ (good : linkedBlockFault s (d .sparse) (blockRef t entry) (share d (first + entry) left) ≡ 0) where
+      gives : List ℕ
+      gives = blockBytes s (d .sparse) (blockRef t entry) (share d (first + entry) left)
+
       step : blocksFrom s d t (d .entries - entry) entry (first + entry) left
-          ≡ joined (part s offset (share d (first + entry) left)) (blocksFrom s d t (d .entries - (entry + 1)) (entry + 1) (first + (entry + 1)) (left - share d (first + entry) left))
+          ≡ joined gives (blocksFrom s d t (d .entries - (entry + 1)) (entry + 1) (first + (entry + 1)) (left - share d (first + entry) left))
+      unfolding gives
       step =
           let n = share d (first + entry) left in
           let i : first + entry + 1 ≡ first + (entry + 1) = omega arith in
           ap (λ k. blocksFrom s d t k entry (first + entry) left) fuel
           ∙ blocks-next s d t entry (first + entry) left (d .entries - (entry + 1)) missed good
-          ∙ ap (λ bs. joined bs (blocksFrom s d t (d .entries - (entry + 1)) (entry + 1) (first + entry + 1) (left - n))) (block-gives s (blockRef t entry) n offset size p enough)
-          ∙ ap (λ i. joined (part s offset n) (blocksFrom s d t (d .entries - (entry + 1)) (entry + 1) i (left - n))) i
+          ∙ ap (λ i. joined gives (blocksFrom s d t (d .entries - (entry + 1)) (entry + 1) i (left - n))) i
 
-      pub taking-next : Taking s d t first missing out₀ (entry + 1) (left - share d (first + entry) left) (put out (d .length - left) (part s offset (share d (first + entry) left)))
+      pub taking-next : Taking s d t first missing out₀ (entry + 1) (left - share d (first + entry) left)
+          (put out (d .length - left) (blockBytes s (d .sparse) (blockRef t entry) (share d (first + entry) left)))
+      unfolding gives
       taking-next =
           let n = share d (first + entry) left in
           let rest = blocksFrom s d t (d .entries - (entry + 1)) (entry + 1) (first + (entry + 1)) (left - n) in
-          let l : length (part s offset n) ≡ n = length-part s offset n (omega (arith, p .inside)) in
-          let at : d .length - (left - n) ≡ d .length - left + length (part s offset n) = omega (arith, share-less d (first + entry) left, w .less) in
+          let l : length gives ≡ n = block-passed s (d .sparse) (blockRef t entry) n good in
+          let at : d .length - (left - n) ≡ d .length - left + length gives = omega (arith, share-less d (first + entry) left, w .less) in
           record {
             upto = omega arith;
             less = omega (arith, w .less);
-            long = length-put out (d .length - left) (part s offset n) ∙ w .long;
+            long = length-put out (d .length - left) gives ∙ w .long;
             fault = ap (λ v. v .fault) (sym step) ∙ w .fault;
             index = ap (λ v. v .index) (sym step) ∙ w .index;
             rest = ap (λ v. v .left) (sym step) ∙ w .rest;
             bytes =
-                ap (λ a. put (put out (d .length - left) (part s offset n)) a (rest .bytes)) at
-                ∙ put-put out (d .length - left) (part s offset n) (rest .bytes)
+                ap (λ a. put (put out (d .length - left) gives) a (rest .bytes)) at
+                ∙ put-put out (d .length - left) gives (rest .bytes)
                 ∙ ap (λ v. put out (d .length - left) (v .bytes)) (sym step)
                 ∙ w .bytes;
           }

@@ -4,28 +4,28 @@ use native.Mathlib.Omega.{arith}
 use mathlib.Core.Path.{_≡_, refl, sym, ap, _∙_}
 use mathlib.Core.Logic.{inl, inr}
 use mathlib.Core.List.{List, []}
-use mathlib.Core.Bool.{true, false, not}
+use mathlib.Core.Bool.{Bool, true, false, not}
 use lib.Dec.{eqb}
-use lib.ListN.{length, take, drop}
+use lib.ListN.{length, take, drop, replicate}
 use lib.Seq.{take-take}
-use borrow.Author.Tests.{le-leb, lt-leb, eq-eqb, ne-eqb}
+use borrow.Author.Tests.{le-leb, lt-leb, eqb-true, eq-eqb, ne-eqb}
 use Rattle.answer.specs.Search.{any}
 use Rattle.answer.specs.declared.Refusal.{Refusal}
-use Rattle.answer.proofs.Tests.{same?}
+use Rattle.answer.proofs.Tests.{on-true, on-false, and-split, fails, same?}
 use Rattle.answer.proofs.Search.{must-holds, must-fails, pass}
-use Rattle.wire.specs.Numbers.{part}
+use Rattle.wire.specs.Numbers.{part, put}
 use Rattle.directory.specs.Opening.{openOf}
 use Rattle.directory.specs.Lookup.{find, findIn}
 use Rattle.directory.specs.Steps.Opens.{Opens}
 use Rattle.directory.proofs.Opens.{opened-find}
 use Rattle.storage.specs.Limits.{linked-tag}
 use Rattle.storage.specs.Elements.{plainOnly, locatedAt, bytesAt}
-use Rattle.storage.specs.Tables.{nextOf, tablesAfter, linkedAt, isThere, linkedBytes, nextTable, linkFault, tableFault, blockBytes}
-use Rattle.storage.specs.Steps.{There, LookedUp, nextFault}
+use Rattle.storage.specs.Tables.{tablesAfter, linkedAt, isThere, linkedBytes, linkFault, tableFault, neverWritten, linkedBlockFault, blockBytes}
+use Rattle.storage.specs.Steps.{There, LookedUp, nextFault, Gave}
 use Rattle.storage.specs.declared.element.Element.the-variants.{Absent}
 use Rattle.storage.specs.declared.element.Located.{Located}
 use Rattle.storage.specs.declared.element.Located.the-variants.{Plain, Refused}
-use Rattle.storage.specs.declared.linked.Description.{Description}
+use Rattle.storage.specs.declared.description.Description.{Description}
 use Rattle.storage.specs.declared.linked.Link.{Link}
 use Rattle.storage.proofs.Elements.{found-plain, located-element}
 
@@ -77,9 +77,37 @@ module _ (s : List ℕ) (ref count absent short : ℕ) where
     unfolding linkFault
     link-none h = must-holds _ _ _ (t .there) ∙ must-holds _ _ _ (le-leb count (length (linkedBytes s ref)) (omega (arith, t .holds)))
 
-pub block-gives : (s : List ℕ) (ref count offset size : ℕ) → There s ref offset size → count ≤ size → blockBytes s ref count ≡ part s offset count
-unfolding blockBytes part
-block-gives s ref count offset size t h = ap (take count) (t .bytes) ∙ take-take count size (drop offset s) h
+-- a block that was never written, and any other
+module _ (s : List ℕ) (sparse : Bool) (ref count : ℕ) where
+  module _ (unwritten : neverWritten sparse ref ≡ true) where
+    pub unwritten-sound : linkedBlockFault s sparse ref count ≡ 0
+    unfolding linkedBlockFault
+    unwritten-sound = on-true (neverWritten sparse ref) _ _ unwritten
+
+    pub unwritten-gives : blockBytes s sparse ref count ≡ replicate count 0
+    unfolding blockBytes
+    unwritten-gives = on-true (neverWritten sparse ref) _ _ unwritten
+
+  module _ (written : neverWritten sparse ref ≡ false) where
+    pub written-fault : linkedBlockFault s sparse ref count ≡ linkFault s ref count 25 26
+    unfolding linkedBlockFault
+    written-fault = on-false (neverWritten sparse ref) _ _ written
+
+    pub written-gives : blockBytes s sparse ref count ≡ take count (linkedBytes s ref)
+    unfolding blockBytes
+    written-gives = on-false (neverWritten sparse ref) _ _ written
+
+    pub block-gives : (offset size : ℕ) → There s ref offset size → count ≤ size → blockBytes s sparse ref count ≡ part s offset count
+    unfolding part
+    block-gives offset size t h = written-gives ∙ ap (take count) (t .bytes) ∙ take-take count size (drop offset s) h
+
+-- only a reference of 0 is never written, where the record is sparse
+pub no-reference : (sparse : Bool) (ref : ℕ) → ref ≡ 0 → neverWritten sparse ref ≡ sparse
+no-reference true ref e = eq-eqb ref 0 e
+no-reference false ref e = refl
+
+pub has-reference : (sparse : Bool) (ref : ℕ) → (ref ≡ 0 → ⊥) → neverWritten sparse ref ≡ false
+has-reference sparse ref z = fails (neverWritten sparse ref) (λ e. z (eqb-true ref 0 (and-split sparse (eqb ref 0) e .1)))
 
 module _ (s : List ℕ) (d : Description) (before : List ℕ) (ref : ℕ) where
   pub table-twice : any (eqb ref) before ≡ true → tableFault s d before ref ≡ 27
@@ -110,16 +138,20 @@ gone-bytes s ref absent short z = go (linkedAt s ref) refl
     go (Refused r) e = ap (bytesAt s) e
     go (Plain p offset size) e = absurd (z (pass _ _ _ (ap isThere e) (pass _ _ _ (le-leb 0 (length (linkedBytes s ref)) (omega arith)) refl)))
 
--- the table that it names next, where it is one
-pub looked-next : (s : List ℕ) (ref absent short : ℕ) (r : Link) → LookedUp s ref (linkFault s ref 0 absent short) 0 r → nextTable (part s (r .offset) (r .length)) ≡ nextOf s ref
-unfolding part
-looked-next s ref absent short r h =
-    elim (same? (r .fault) 0) [
-      | inl e ↦ ap nextTable (sym (h .there e .bytes))
-      | inr z ↦
-          let none : part s (r .offset) (r .length) ≡ [] = ap (part s (r .offset)) (h .nowhere z) in
-          ap nextTable (none ∙ sym (gone-bytes s ref absent short (λ q. z (h .fault-is ∙ q))))
-    ]
+-- its bytes and how many it has, of which none were needed
+module _ (s : List ℕ) (ref absent short : ℕ) (r : Link) (h : LookedUp s ref (linkFault s ref 0 absent short) 0 r) where
+  none-there : (r .fault ≡ 0 → ⊥) → linkedBytes s ref ≡ []
+  none-there z = gone-bytes s ref absent short (λ q. z (h .fault-is ∙ q))
+
+  pub looked-bytes : part s (r .offset) (r .length) ≡ linkedBytes s ref
+  unfolding part
+  looked-bytes = elim (same? (r .fault) 0) [
+    | inl e ↦ sym (h .there e .bytes)
+    | inr z ↦ let none : part s (r .offset) (r .length) ≡ [] = ap (part s (r .offset)) (h .nowhere z) in none ∙ sym (none-there z)
+  ]
+
+  pub looked-length : r .length ≡ length (linkedBytes s ref)
+  looked-length = elim (same? (r .fault) 0) [ inl e ↦ sym (h .there e .holds) | inr z ↦ h .nowhere z ∙ sym (ap length (none-there z)) ]
 
 -- a table after so many others: one too many, one of those, or a new one
 module _ (s : List ℕ) (d : Description) (count ref : ℕ) where
@@ -135,3 +167,29 @@ module _ (s : List ℕ) (d : Description) (count ref : ℕ) where
 
     pub next-fresh : any (eqb ref) (tablesAfter s count (d .table)) ≡ false → nextFault s d count ref ≡ linkFault s ref (2 + 2 * d .entries) 23 24
     next-fresh h = next-few ∙ table-fresh s d _ ref h
+
+-- ---- A block that is taken
+
+module _ (s : List ℕ) (sparse : Bool) (ref count at : ℕ) (out : List ℕ) where
+  pub gave-zeros : neverWritten sparse ref ≡ true → (after : List ℕ) → after ≡ put out at (replicate count 0) → Gave s sparse ref count at out after 0
+  gave-zeros u after e =
+      record {
+        fault-is = sym (unwritten-sound s sparse ref count u);
+        gives = λ q. e ∙ ap (put out at) (sym (unwritten-gives s sparse ref count u));
+        leaves = λ z. absurd (z refl);
+      }
+
+  module _ (written : neverWritten sparse ref ≡ false) (r : Link) (h : LookedUp s ref (linkFault s ref count 25 26) count r) where
+    fault-of : r .fault ≡ linkedBlockFault s sparse ref count
+    fault-of = h .fault-is ∙ sym (written-fault s sparse ref count written)
+
+    pub gave-none : (r .fault ≡ 0 → ⊥) → Gave s sparse ref count at out out (r .fault)
+    gave-none z = record { fault-is = fault-of; gives = λ q. absurd (z q); leaves = λ q. refl }
+
+    pub gave-bytes : r .fault ≡ 0 → (after : List ℕ) → after ≡ put out at (part s (r .offset) count) → Gave s sparse ref count at out after 0
+    gave-bytes f after e =
+        record {
+          fault-is = sym f ∙ fault-of;
+          gives = λ q. e ∙ ap (put out at) (sym (block-gives s sparse ref count written (r .offset) (r .length) (h .there f) (h .enough f)));
+          leaves = λ z. absurd (z refl);
+        }

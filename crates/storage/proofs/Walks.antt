@@ -5,14 +5,16 @@ use native.Mathlib.Omega.{arith}
 use mathlib.Core.Path.{_≡_, refl, sym, ap, _∙_}
 use mathlib.Core.Logic.{inl, inr}
 use mathlib.Core.List.{List, [], _∷_, _++_}
-use lib.ListN.{length, length-append}
+use mathlib.Core.Bool.{Bool}
+use lib.ListN.{length, length-append, length-replicate}
 use lib.Seq.{length-take-le}
 use borrow.Author.Tests.{leb-true, eq-eqb, ne-eqb}
-use Rattle.answer.proofs.Tests.{zero?, same?}
+use Rattle.answer.proofs.Tests.{test, zero?, same?}
 use Rattle.answer.proofs.Search.{passed}
-use Rattle.storage.specs.Tables.{linkedBytes, nextTable, blockRef, linkFault, tableFault, linkedBlockFault, blockBytes}
+use Rattle.storage.specs.Tables.{linkedBytes, nextTable, blockRef, linkFault, tableFault, neverWritten, linkedBlockFault, blockBytes}
 use Rattle.storage.specs.Walks.{share, Walk, ends, breaks, joined, andThen, blocksFrom, tablesFrom, chainOf}
-use Rattle.storage.specs.declared.linked.Description.{Description}
+use Rattle.storage.specs.declared.description.Description.{Description}
+use Rattle.storage.proofs.Tables.{unwritten-gives, written-fault, written-gives}
 
 -- ---- One block further
 
@@ -41,27 +43,31 @@ module _ (s : List ℕ) (d : Description) (t : List ℕ) (entry index left : ℕ
   blocks-full (suc k) e = simp (blocksFrom, eq-eqb left 0 e)
 
   module _ (k : ℕ) (more : left ≡ 0 → ⊥) where
-    pub blocks-fault : (linkedBlockFault s (blockRef t entry) (share d index left) ≡ 0 → ⊥)
-        → blocksFrom s d t (suc k) entry index left ≡ breaks (linkedBlockFault s (blockRef t entry) (share d index left)) index left
+    pub blocks-fault : (linkedBlockFault s (d .sparse) (blockRef t entry) (share d index left) ≡ 0 → ⊥)
+        → blocksFrom s d t (suc k) entry index left ≡ breaks (linkedBlockFault s (d .sparse) (blockRef t entry) (share d index left)) index left
     unfolding blocksFrom
     blocks-fault z =
-        elim (zero? (linkedBlockFault s (blockRef t entry) (share d index left))) [
+        elim (zero? (linkedBlockFault s (d .sparse) (blockRef t entry) (share d index left))) [
           | inl e ↦ absurd (z e)
           | inr m ↦ simp (blocksFrom, ne-eqb left 0 more, m .1)
         ]
 
-    pub blocks-next : linkedBlockFault s (blockRef t entry) (share d index left) ≡ 0
+    pub blocks-next : linkedBlockFault s (d .sparse) (blockRef t entry) (share d index left) ≡ 0
         → blocksFrom s d t (suc k) entry index left
-        ≡ joined (blockBytes s (blockRef t entry) (share d index left)) (blocksFrom s d t k (entry + 1) (index + 1) (left - share d index left))
+        ≡ joined (blockBytes s (d .sparse) (blockRef t entry) (share d index left)) (blocksFrom s d t k (entry + 1) (index + 1) (left - share d index left))
     unfolding blocksFrom
     blocks-next h = simp (blocksFrom, ne-eqb left 0 more, h)
 
 -- a block without fault has the bytes that are taken
-block-passed : (s : List ℕ) (ref count : ℕ) → linkedBlockFault s ref count ≡ 0 → length (blockBytes s ref count) ≡ count
-unfolding linkedBlockFault linkFault blockBytes
-block-passed s ref count e =
-    let h = passed _ _ _ (passed _ _ _ e .1) in
-    length-take-le count (linkedBytes s ref) (leb-true _ _ (h .0))
+pub block-passed : (s : List ℕ) (sparse : Bool) (ref count : ℕ) → linkedBlockFault s sparse ref count ≡ 0 → length (blockBytes s sparse ref count) ≡ count
+unfolding linkFault
+block-passed s sparse ref count e =
+    elim (test (neverWritten sparse ref)) [
+      | inl u ↦ ap length (unwritten-gives s sparse ref count u) ∙ length-replicate count 0
+      | inr w ↦
+          let h = passed _ _ _ (passed _ _ _ (sym (written-fault s sparse ref count w) ∙ e) .1) in
+          ap length (written-gives s sparse ref count w) ∙ length-take-le count (linkedBytes s ref) (leb-true _ _ (h .0))
+    ]
 
 -- what was given and what is left make up what was to be given
 pub blocks-total : (s : List ℕ) (d : Description) (t : List ℕ) (k entry index left : ℕ)
@@ -70,14 +76,14 @@ blocks-total s d t zero entry index left = rw (blocks-none s d t entry index lef
 blocks-total s d t (suc k) entry index left =
     elim (same? left 0) [
       | inl z ↦ rw (blocks-full s d t entry index left (suc k) z) (omega arith)
-      | inr z ↦ elim (same? (linkedBlockFault s (blockRef t entry) (share d index left)) 0) [
+      | inr z ↦ elim (same? (linkedBlockFault s (d .sparse) (blockRef t entry) (share d index left)) 0) [
         | inr f ↦ rw (blocks-fault s d t entry index left k z f) (omega arith)
         | inl e ↦
             let n = share d index left in
-            let bs = blockBytes s (blockRef t entry) n in
+            let bs = blockBytes s (d .sparse) (blockRef t entry) n in
             let w = blocksFrom s d t k (entry + 1) (index + 1) (left - n) in
             rw (blocks-next s d t entry index left k z e)
-            (omega (arith, length-append bs (w .bytes), block-passed s (blockRef t entry) n e, share-less d index left, blocks-total s d t k (entry + 1) (index + 1) (left - n)))
+            (omega (arith, length-append bs (w .bytes), block-passed s (d .sparse) (blockRef t entry) n e, share-less d index left, blocks-total s d t k (entry + 1) (index + 1) (left - n)))
       ]
     ]
 

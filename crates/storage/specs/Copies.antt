@@ -1,5 +1,5 @@
--- Copying an element's bytes to the front of a lent buffer, after document 01, "Reading elements", and request (i) of document 02.
--- Assumes nothing.
+-- Copying an element's bytes to the front of a lent buffer, after document 01, "Reading elements", and requests (i) and (iii) of
+-- document 02. Assumes nothing.
 use Prim.Native.Nat.{ℕ}
 use mathlib.Core.List.{List, [], _∷_}
 use mathlib.Core.Bool.{true, false}
@@ -13,8 +13,8 @@ use Rattle.directory.specs.Slots.{contentAt}
 use Rattle.directory.specs.Opening.{opened}
 use Rattle.directory.specs.Lookup.{find}
 use Rattle.storage.specs.Elements.{elementAt}
-use Rattle.storage.specs.Descriptions.{descriptionOf, recordFault}
-use Rattle.storage.specs.Walks.{chainOf}
+use Rattle.storage.specs.Descriptions.{descriptionOf, recordLength, recordFault}
+use Rattle.storage.specs.Walks.{Walk, chainOf}
 use Rattle.storage.specs.declared.element.Element.{Element}
 use Rattle.storage.specs.declared.element.Element.the-variants.{Absent, Plain, Extended}
 use Rattle.storage.specs.declared.copy.Copied.{Copied}
@@ -38,16 +38,13 @@ pub record Stored : Type 0 where
 unfoldable pub inPlace : List ℕ → ℕ → ℕ → Stored
 inPlace s offset size = record { record-fault = 0; size = size; chain-fault = 0; chain-index = 0; bytes = part s offset size }
 
+-- by what a walk over its chain comes to
+abbrev pub ofWalk : ℕ → ℕ → Walk → Stored
+ofWalk fault size w = record { record-fault = fault; size = size; chain-fault = w .fault; chain-index = w .index; bytes = w .bytes }
+
 -- in linked blocks, by the bytes of its record
 unfoldable pub inBlocks : List ℕ → List ℕ → Stored
-inBlocks s r =
-    record {
-      record-fault = recordFault r;
-      size = descriptionOf r .length;
-      chain-fault = chainOf s (descriptionOf r) .fault;
-      chain-index = chainOf s (descriptionOf r) .index;
-      bytes = chainOf s (descriptionOf r) .bytes;
-    }
+inBlocks s r = ofWalk (recordFault r) (recordLength r) (chainOf s (descriptionOf s r))
 
 -- the rules of the record, then 14, then the chain
 unfoldable pub copyAt : ℕ → ℕ → Stored → Answer

@@ -1,15 +1,16 @@
 -- What it is for the bytes of an element in linked blocks to come from its tables and the blocks that they name, after document 01,
--- "Reading elements". Assumes nothing.
+-- "Reading elements", and request (iii) of document 02. Assumes nothing.
 use Prim.Native.Nat.{ℕ, zero, suc, _+_, _*_, _-_, _<_, _≤_}
 use mathlib.Core.Path.{_≡_}
 use mathlib.Core.List.{List, [], _∷_, _++_}
-use mathlib.Core.Bool.{true}
+use mathlib.Core.Bool.{Bool, true}
+use mathlib.Core.Logic.{_⊎_}
 use lib.ListN.{length}
 use Rattle.answer.specs.Search.{In, Pairwise}
 use Rattle.storage.specs.Limits.{most-tables}
-use Rattle.storage.specs.Tables.{linkedAt, isThere, linkedBytes, nextTable, blockRef, blockBytes}
+use Rattle.storage.specs.Tables.{linkedAt, isThere, linkedBytes, nextTable, blockRef, neverWritten, blockBytes}
 use Rattle.storage.specs.Walks.{share}
-use Rattle.storage.specs.declared.linked.Description.{Description}
+use Rattle.storage.specs.declared.description.Description.{Description}
 
 -- the references of the blocks that k entries of a table name, from an entry on
 unfoldable pub entriesOf : List ℕ → ℕ → ℕ → List ℕ
@@ -24,21 +25,21 @@ blockRefs s d (t ∷ ts) = entriesOf (linkedBytes s t) (d .entries) 0 ++ blockRe
 -- what blocks give, one after the other, of which the first has an index, where so many bytes are left; once none are left a block gives none
 unfoldable pub given : List ℕ → Description → ℕ → ℕ → List ℕ → List ℕ
 given s d index left [] = []
-given s d index left (b ∷ bs) = blockBytes s b (share d index left) ++ given s d (index + 1) (left - share d index left) bs
+given s d index left (b ∷ bs) = blockBytes s (d .sparse) b (share d index left) ++ given s d (index + 1) (left - share d index left) bs
 
 -- how many bytes are left after blocks
 unfoldable pub leftAfter : Description → ℕ → ℕ → List ℕ → ℕ
 leftAfter d index left [] = left
 leftAfter d index left (b ∷ bs) = leftAfter d (index + 1) (left - share d index left) bs
 
--- a block is there, and has the bytes that are taken of it
-abbrev pub Holds : List ℕ → ℕ → ℕ → Type 0
-Holds s b count = (isThere (linkedAt s b) ≡ true) × (count ≤ length (linkedBytes s b))
+-- a block was never written, or is there and has the bytes that are taken of it
+abbrev pub Holds : List ℕ → Bool → ℕ → ℕ → Type 0
+Holds s sparse b count = (neverWritten sparse b ≡ true) ⊎ ((isThere (linkedAt s b) ≡ true) × (count ≤ length (linkedBytes s b)))
 
 -- and so is every block of which bytes are taken
 abbrev pub Sound : List ℕ → Description → ℕ → ℕ → List ℕ → Type 0
 Sound s d index left [] = Unit {0}
-Sound s d index left (b ∷ bs) = (0 < left → Holds s b (share d index left)) × Sound s d (index + 1) (left - share d index left) bs
+Sound s d index left (b ∷ bs) = (0 < left → Holds s (d .sparse) b (share d index left)) × Sound s d (index + 1) (left - share d index left) bs
 
 -- the first of the tables has a reference, and each names the next
 abbrev pub Chained : List ℕ → ℕ → List ℕ → Type 0

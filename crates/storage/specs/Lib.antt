@@ -2,11 +2,13 @@ pub mod Limits
 pub mod Elements
 pub mod Views
 pub mod Choices
-pub mod Descriptions
 pub mod Tables
+pub mod Descriptions
 pub mod Walks
 pub mod Given
 pub mod Links
 pub mod Copies
+pub mod Before
+pub mod Sizes
 pub mod Steps
 pub mod Cases

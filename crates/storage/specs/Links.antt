@@ -1,34 +1,60 @@
 -- The rules of an element in linked blocks as facts about its record and about its tables and blocks, each by its index, without a walk, after
--- document 01, "Reading elements", and request (i) of document 02. The numbers are the papers' own. Assumes nothing.
+-- document 01, "Reading elements", and requests (i) and (iii) of document 02. The numbers are the papers' own. Assumes nothing.
 use Prim.Native.Nat.{ℕ, zero, suc, _+_, _*_, _-_, _/_, _%_, _<_, _≤_}
 use mathlib.Core.Path.{_≡_}
 use mathlib.Core.Logic.{_⊎_}
 use mathlib.Core.List.{List}
-use mathlib.Core.Bool.{false}
+use mathlib.Core.Bool.{true, false}
 use lib.ListN.{length}
-use Rattle.answer.specs.Rules.{Rules, done, rule}
+use lib.Dec.{eqb}
+use Rattle.answer.specs.Rules.{Rules, done, rule, followed}
 use Rattle.wire.specs.Numbers.{be}
 use Rattle.directory.specs.Slots.{sizeAt}
 use Rattle.directory.specs.Named.{Named}
 use Rattle.storage.specs.Elements.{extendedAt}
 use Rattle.storage.specs.Tables.{linkedBytes, blockRef, tableAfter}
+use Rattle.storage.specs.Descriptions.{recordLength}
 use Rattle.storage.specs.Walks.{share}
-use Rattle.storage.specs.declared.linked.Description.{Description}
+use Rattle.storage.specs.declared.description.Description.{Description}
 
 -- ---- The record
 
--- the rules of a record at its slot, and then of the buffer, in the order in which they are judged: the kind is there and is 1, the record has 22
--- bytes, and its first_len, blk_len and num_blk are not 0; the buffer has room for as many bytes as the record says
-abbrev pub copyRules : List ℕ → ℕ → ℕ → Rules
-copyRules r p room =
-    rule 13 p (4 ≤ length r)
-    (rule 12 p (be 4 r 0 ≡ 1)
-    (rule 13 p (length r ≡ 22)
+-- the rules of a record at its slot in the order in which they are judged. 16 bytes: the kind is 1, the length of a block and the blocks of a
+-- table are not 0
+abbrev pub sparseRules : List ℕ → ℕ → Rules
+sparseRules r p =
+    rule 12 p (be 2 r 0 ≡ 1)
+    (rule 13 p (1 ≤ be 4 r 6)
+    (rule 13 p (1 ≤ be 4 r 10)
+    done))
+
+-- 22 bytes: the kind is 1, first_len, blk_len and num_blk are not 0
+abbrev pub fullRules : List ℕ → ℕ → Rules
+fullRules r p =
+    rule 12 p (be 4 r 0 ≡ 1)
     (rule 13 p (1 ≤ be 4 r 8)
     (rule 13 p (1 ≤ be 4 r 12)
     (rule 13 p (1 ≤ be 4 r 16)
-    (rule 14 0 (be 4 r 4 ≤ room)
-    done))))))
+    done)))
+
+-- any other length: the kind is there, it is 1 in 16 or in 32 bits, and then the length is wrong
+abbrev pub otherRules : List ℕ → ℕ → Rules
+otherRules r p =
+    rule 13 p (4 ≤ length r)
+    (rule 12 p ((be 2 r 0 ≡ 1) ⊎ (be 4 r 0 ≡ 1))
+    (rule 13 p ⊥
+    done))
+
+unfoldable pub recordRules : List ℕ → ℕ → Rules
+recordRules r p =
+    elim (eqb (length r) 16) [
+      | true ↦ sparseRules r p
+      | false ↦ elim (eqb (length r) 22) [ true ↦ fullRules r p | false ↦ otherRules r p ]
+    ]
+
+-- then the buffer has room for as many bytes as the record says
+abbrev pub copyRules : List ℕ → ℕ → ℕ → Rules
+copyRules r p room = followed (recordRules r p) (rule 14 0 (recordLength r ≤ room) done)
 
 -- ---- Tables and blocks by their index
 
@@ -74,10 +100,18 @@ pub record SoundTable (s : List ℕ) (d : Description) (i : ℕ) : Type 0 where
   pub whole : 2 + 2 * d .entries ≤ sizeAt s slot
 
 -- block j is there, and has the bytes that are taken of it
-pub record SoundBlock (s : List ℕ) (d : Description) (j : ℕ) : Type 0 where
+pub record StoredBlock (s : List ℕ) (d : Description) (j : ℕ) : Type 0 where
   pub slot : ℕ
   pub linked : LinkSlot s (blockAt s d j) slot
   pub long : taken d j ≤ sizeAt s slot
+
+-- it was never written: its reference is 0, where the record is sparse
+pub record Unwritten (s : List ℕ) (d : Description) (j : ℕ) : Type 0 where
+  pub allowed : d .sparse ≡ true
+  pub none : blockAt s d j ≡ 0
+
+abbrev pub SoundBlock : List ℕ → Description → ℕ → Type 0
+SoundBlock s d j = StoredBlock s d j ⊎ Unwritten s d j
 
 -- every table and block of which bytes are needed is sound
 pub record Unbroken (s : List ℕ) (d : Description) : Type 0 where
@@ -117,9 +151,10 @@ pub record ShortTable (s : List ℕ) (d : Description) (i : ℕ) : Type 0 where
   pub linked : LinkSlot s (tableAt s d i) slot
   pub short : sizeAt s slot < 2 + 2 * d .entries
 
--- 25: block j is not there
+-- 25: block j is not there, and not by being never written
 pub record NoBlock (s : List ℕ) (d : Description) (j : ℕ) : Type 0 where
   pub reached : ReachesBlock s d j
+  pub meant : Unwritten s d j → ⊥
   pub missing : (p : ℕ) → LinkSlot s (blockAt s d j) p → ⊥
 
 -- 26: it has not the bytes that are taken of it

@@ -10,9 +10,9 @@ use Rattle.answer.specs.Search.{must}
 use Rattle.wire.specs.Numbers.{part, put}
 use Rattle.storage.specs.Limits.{most-tables}
 use Rattle.storage.specs.Descriptions.{descriptionOf}
-use Rattle.storage.specs.Tables.{linkedAt, isThere, linkedBytes, tableAfter, tablesAfter, tableFault}
+use Rattle.storage.specs.Tables.{linkedAt, isThere, linkedBytes, tableAfter, tablesAfter, tableFault, linkedBlockFault, blockBytes}
 use Rattle.storage.specs.Walks.{Walk}
-use Rattle.storage.specs.declared.linked.Description.{Description}
+use Rattle.storage.specs.declared.description.Description.{Description}
 use Rattle.storage.specs.declared.linked.Link.{Link}
 use Rattle.storage.specs.declared.linked.Walked.{Walked}
 
@@ -21,8 +21,8 @@ pub record InRange (d : Description) : Type 0 where
   pub length : d .length < 4294967296
   pub entries : d .entries < 4294967296
 
-pub record Describes (r : List ℕ) (d : Description) : Type 0 where
-  pub is : d ≡ descriptionOf r
+pub record Describes (s r : List ℕ) (d : Description) : Type 0 where
+  pub is : d ≡ descriptionOf s r
   pub small : InRange d
 
 -- a table or block that is there, and where its bytes stand
@@ -48,6 +48,12 @@ nextFault s d count ref = must (not (eqb count most-tables)) TABLE-LOOP (tableFa
 pub record Marked (s : List ℕ) (first count : ℕ) (marks : List Bool) : Type 0 where
   pub long : length marks ≡ 251
   pub set : (i : ℕ) → i < count → getD marks (tableAfter s i first % 251) false ≡ true
+
+-- a block with a reference: the number of the first rule that it breaks, and what it gives put to a place where it breaks none
+pub record Gave (s : List ℕ) (sparse : Bool) (ref count at : ℕ) (out after : List ℕ) (fault : ℕ) : Type 0 where
+  pub fault-is : fault ≡ linkedBlockFault s sparse ref count
+  pub gives : fault ≡ 0 → after ≡ put out at (blockBytes s sparse ref count)
+  pub leaves : (fault ≡ 0 → ⊥) → after ≡ out
 
 -- where a walk stands: at the block of an index, with so many bytes left
 pub record Reached (d : Description) (index left : ℕ) : Type 0 where

@@ -1,8 +1,9 @@
--- The tables and blocks of an element in linked blocks, after document 01, "Reading elements", and request (i) of document 02. Assumes nothing.
+-- The tables and blocks of an element in linked blocks, after document 01, "Reading elements", and requests (i) and (iii) of
+-- document 02. Assumes nothing.
 use Prim.Native.Nat.{ℕ, _+_, _*_}
 use mathlib.Core.List.{List}
-use mathlib.Core.Bool.{Bool, true, false, not}
-use lib.ListN.{length, take}
+use mathlib.Core.Bool.{Bool, true, false, not, _&&_}
+use lib.ListN.{length, take, replicate}
 use lib.Dec.{leb, eqb}
 use Rattle.answer.specs.Refusals.{NO-TABLE, SHORT-TABLE, NO-BLOCK, SHORT-BLOCK, TABLE-LOOP}
 use Rattle.answer.specs.Search.{must, any}
@@ -14,7 +15,7 @@ use Rattle.storage.specs.Elements.{plainOnly, locatedAt, bytesAt}
 use Rattle.storage.specs.declared.element.Element.the-variants.{Absent}
 use Rattle.storage.specs.declared.element.Located.{Located}
 use Rattle.storage.specs.declared.element.Located.the-variants.{Plain, Refused}
-use Rattle.storage.specs.declared.linked.Description.{Description}
+use Rattle.storage.specs.declared.description.Description.{Description}
 
 -- the table or block with a reference: the element of tag 20 and that reference, which must be in plain storage; a reference of 0 names none
 unfoldable pub linkedAt : List ℕ → ℕ → Located
@@ -57,10 +58,14 @@ linkFault s ref count absent short =
 unfoldable pub tableFault : List ℕ → Description → List ℕ → ℕ → ℕ
 tableFault s d before ref = must (not (any (eqb ref) before)) TABLE-LOOP (linkFault s ref (2 + 2 * d .entries) NO-TABLE SHORT-TABLE)
 
--- a block of which so many bytes are taken
-unfoldable pub linkedBlockFault : List ℕ → ℕ → ℕ → ℕ
-linkedBlockFault s ref count = linkFault s ref count NO-BLOCK SHORT-BLOCK
+-- a block was never written: its reference is 0, where the record is sparse
+abbrev pub neverWritten : Bool → ℕ → Bool
+neverWritten sparse ref = sparse && eqb ref 0
 
--- what a block gives of which so many bytes are taken
-unfoldable pub blockBytes : List ℕ → ℕ → ℕ → List ℕ
-blockBytes s ref count = take count (linkedBytes s ref)
+-- a block of which so many bytes are taken
+unfoldable pub linkedBlockFault : List ℕ → Bool → ℕ → ℕ → ℕ
+linkedBlockFault s sparse ref count = elim (neverWritten sparse ref) [ true ↦ 0 | false ↦ linkFault s ref count NO-BLOCK SHORT-BLOCK ]
+
+-- what a block gives of which so many bytes are taken: one that was never written reads as zeros
+unfoldable pub blockBytes : List ℕ → Bool → ℕ → ℕ → List ℕ
+blockBytes s sparse ref count = elim (neverWritten sparse ref) [ true ↦ replicate count 0 | false ↦ take count (linkedBytes s ref) ]

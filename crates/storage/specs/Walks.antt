@@ -1,5 +1,5 @@
 -- The walk over the tables and blocks of an element in linked blocks, and the bytes that they give, after document 01, "Reading elements",
--- and request (i) of document 02. Assumes nothing.
+-- and requests (i) and (iii) of document 02. Assumes nothing.
 use Prim.Native.Nat.{ℕ, zero, suc, _+_, _-_, min}
 use mathlib.Core.List.{List, [], _∷_, _++_}
 use mathlib.Core.Bool.{true, false}
@@ -8,9 +8,9 @@ use lib.ListN.{length}
 use Rattle.answer.specs.Refusals.{TABLE-LOOP}
 use Rattle.storage.specs.Limits.{most-tables}
 use Rattle.storage.specs.Tables.{linkedBytes, nextTable, blockRef, tableFault, linkedBlockFault, blockBytes}
-use Rattle.storage.specs.declared.linked.Description.{Description}
+use Rattle.storage.specs.declared.description.Description.{Description}
 
--- block 0 gives up to first_len bytes, each later one up to blk_len, and none more than are left to give
+-- block 0 gives up to the first length, each later one up to the block length, and none more than are left to give
 unfoldable pub share : Description → ℕ → ℕ → ℕ
 share d zero left = min (d .first) left
 share d (suc index) left = min (d .block) left
@@ -45,9 +45,9 @@ blocksFrom s d t (suc k) entry index left =
     elim (eqb left 0) [
       | true ↦ ends left
       | false ↦
-          elim (linkedBlockFault s (blockRef t entry) (share d index left)) [
+          elim (linkedBlockFault s (d .sparse) (blockRef t entry) (share d index left)) [
             | zero ↦
-                joined (blockBytes s (blockRef t entry) (share d index left))
+                joined (blockBytes s (d .sparse) (blockRef t entry) (share d index left))
                 (blocksFrom s d t k (entry + 1) (index + 1) (left - share d index left))
             | suc number ↦ breaks (suc number) index left
           ]

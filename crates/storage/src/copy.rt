@@ -1,4 +1,5 @@
 // A copy of an element's bytes, from plain storage or from linked blocks.
+use super::description;
 use super::element;
 use super::element::Element;
 use super::linked;
@@ -40,21 +41,21 @@ fn copy_blocks(image: &[u8], blocks: usize, p: usize, out: &mut [u8]) -> Copied
     ensures { λ r. ⌜ (let x = inBlocks (now (image .entry)) (contentAt (now (image .entry)) p) in
         Does (copyAt (length (now (out .entry))) p x) (x .bytes) (now (out .entry)) (now (out .exit)) (copiedNumbers r)) ⌝ }
 {
-    let record = wire::part(image, element::start(image, p), element::size(image, p));
-    let broken = linked::record_fault(record);
+    let record = element::content(image, p);
+    let broken = description::record_fault(record);
     if broken != 0 {
         return refused(Refusal {
             number: broken,
             place: p,
         });
     }
-    let d = linked::read_description(record);
-    if out.len() < d.length {
+    if out.len() < description::record_length(record) {
         return refused(Refusal {
             number: SMALL,
             place: 0,
         });
     }
+    let d = linked::describe(image, blocks, record);
     let judged = linked::follow(image, blocks, d, &mut out[..0]);
     if judged.fault != 0 {
         return Copied::Refused(Carrying {

@@ -10,7 +10,7 @@ use directory::format::LONE;
 ghost use mathlib.Core.Path.{_≡_};
 ghost use Prim.Native.Nat.{_≤_};
 ghost use Rattle.directory.specs.Lookup.{findIn};
-ghost use Rattle.directory.specs.Slots.{sizeAt};
+ghost use Rattle.directory.specs.Slots.{sizeAt, contentAt};
 ghost use Rattle.directory.specs.Steps.Cursors.{most-place};
 ghost use Rattle.storage.specs.Elements.{extendedAt, startAt, elementAt, isAbsent, plainOnly, refusalIn};
 
@@ -70,6 +70,14 @@ pub(crate) fn start(image: &[u8], p: usize) -> usize
         return 0;
     }
     wire::read32(image, p + 4)
+}
+
+// The bytes of the element of the slot at p, as far as they reach; of an extended element, its record.
+pub(crate) fn content(image: &[u8], p: usize) -> &[u8]
+    requires { ⌜ p ≤ most-place ⌝ }
+    ensures { λ r. ⌜ now r ≡ contentAt (now (image .entry)) p ⌝ }
+{
+    wire::part(image, start(image, p), size(image, p))
 }
 
 // What the base tag of a tag and a reference name in a chain of so many blocks.

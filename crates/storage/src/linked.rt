@@ -1,42 +1,30 @@
-// An element in linked blocks: its record, the tables that it leads to, and the blocks that they name. Tables and blocks are looked up
-// in the image's data descriptor blocks, of which there are so many as the parameter `blocks` says.
+// An element in linked blocks: the tables that its record leads to, and the blocks that they name. Tables and blocks are looked up in the
+// image's data descriptor blocks, of which there are so many as the parameter `blocks` says.
+use super::description::Description;
 use super::element;
 use super::element::Element;
 use super::element::Located;
-use super::format::KIND_BYTES;
-use super::format::LINKED_KIND;
 use super::format::LINKED_TAG;
 use super::format::MOST_TABLES;
-use super::format::RECORD_BYTES;
-use answer::refusals::CHAIN;
+use super::format::SPARSE_RECORD_BYTES;
 use answer::refusals::NO_BLOCK;
 use answer::refusals::NO_TABLE;
 use answer::refusals::SHORT_BLOCK;
 use answer::refusals::SHORT_TABLE;
-use answer::refusals::STORAGE;
 use answer::refusals::TABLE_LOOP;
 ghost use mathlib.Core.Path.{_≡_};
 ghost use Prim.Native.Nat.{_+_, _*_, _-_, _%_};
 ghost use lib.Dec.{eqb};
 ghost use Rattle.answer.specs.Search.{any};
-ghost use Rattle.storage.specs.Descriptions.{recordFault};
-ghost use Rattle.storage.specs.Tables.{nextOf, tablesAfter, linkedAt, linkFault};
+ghost use Rattle.storage.specs.Descriptions.{firstLength};
+ghost use Rattle.wire.specs.Numbers.{be};
+ghost use Rattle.storage.specs.Tables.{tablesAfter, linkedAt, linkedBytes, linkFault, neverWritten};
 ghost use Rattle.storage.specs.Walks.{share, blocksFrom, chainOf};
 ghost use Rattle.directory.specs.Steps.Opens.{Opens};
-ghost use Rattle.storage.specs.Steps.{InRange, Describes, LookedUp, nextFault, Marked, Reached, Took};
+ghost use Rattle.storage.specs.Steps.{InRange, Describes, LookedUp, nextFault, Marked, Gave, Reached, Took};
 
 // How many marks the tables of a chain share. A prime, so that references that ascend by the same step have marks of their own.
 const MARKS: usize = 251;
-
-// The fields of a record: how many bytes the element has, its first block (first_len) and each later one (blk_len), how many blocks a
-// table has (num_blk), and the reference of the first table (link_ref).
-pub struct Description {
-    pub length: usize,
-    pub first: usize,
-    pub block: usize,
-    pub entries: usize,
-    pub table: u16,
-}
 
 // What a walk came to: how many bytes are left to copy, the number of the first fault, 0 where there is none, and the index of the table or
 // block that has it.
@@ -58,44 +46,6 @@ pub struct Link {
     pub fault: usize,
     pub offset: usize,
     pub length: usize,
-}
-
-pub(crate) fn read_description(bytes: &[u8]) -> Description
-    ensures { λ r. ⌜ Describes (now (bytes .entry)) r ⌝ }
-{
-    Description {
-        length: wire::read32(bytes, 4),
-        first: wire::read32(bytes, 8),
-        block: wire::read32(bytes, 12),
-        entries: wire::read32(bytes, 16),
-        table: wire::read16(bytes, 20) as u16,
-    }
-}
-
-// The number of the first rule that the bytes of an extended element break as a record, 0 where they break none.
-pub(crate) fn record_fault(bytes: &[u8]) -> usize
-    ensures { λ r. ⌜ r ≡ recordFault (now (bytes .entry)) ⌝ }
-{
-    if bytes.len() < KIND_BYTES {
-        return CHAIN;
-    }
-    if wire::read32(bytes, 0) != LINKED_KIND {
-        return STORAGE;
-    }
-    if bytes.len() != RECORD_BYTES {
-        return CHAIN;
-    }
-    let d = read_description(bytes);
-    if d.first == 0 {
-        return CHAIN;
-    }
-    if d.block == 0 {
-        return CHAIN;
-    }
-    if d.entries == 0 {
-        return CHAIN;
-    }
-    0
 }
 
 // The table or block with a reference; a reference of 0 names none.
@@ -160,13 +110,53 @@ fn share_of(d: Description, index: usize, left: usize) -> usize
     wire::least(d.block, left)
 }
 
-// The reference that the table with a reference names next, 0 where that table is not there: its fault is not asked, and it has no bytes.
-fn next_table(image: &[u8], blocks: usize, reference: u16) -> u16
+// The reference at a place of the table with a reference, 0 where that table is not there: its fault is not asked, and it has no bytes.
+fn reference_in(image: &[u8], blocks: usize, table: u16, at: usize) -> u16
     requires { ⌜ Opens (now image) blocks ⌝ }
-    ensures { λ r. ⌜ r ≡ nextOf (now (image .entry)) reference ⌝ }
+    ensures { λ r. ⌜ r ≡ be 2 (linkedBytes (now (image .entry)) table) at ⌝ }
 {
-    let link = reach(image, blocks, reference, 0, NO_TABLE, SHORT_TABLE);
-    wire::read16(wire::part(image, link.offset, link.length), 0) as u16
+    let link = reach(image, blocks, table, 0, NO_TABLE, SHORT_TABLE);
+    wire::read16(wire::part(image, link.offset, link.length), at) as u16
+}
+
+// How many bytes block 0 has where the record does not say: those of its own element, or, where it was never written, as many as every other.
+fn first_length(image: &[u8], blocks: usize, table: u16, block: usize) -> usize
+    requires { ⌜ Opens (now image) blocks ⌝ }
+    ensures { λ r. ⌜ r ≡ firstLength (now (image .entry)) table block ⌝ }
+{
+    let reference = reference_in(image, blocks, table, 2);
+    if reference == 0 {
+        return block;
+    }
+    let first = reach(image, blocks, reference, 0, NO_BLOCK, SHORT_BLOCK);
+    first.length
+}
+
+// What a record of either layout is read into.
+pub(crate) fn describe(image: &[u8], blocks: usize, bytes: &[u8]) -> Description
+    requires { ⌜ Opens (now image) blocks ⌝ }
+    ensures { λ r. ⌜ Describes (now (image .entry)) (now (bytes .entry)) r ⌝ }
+{
+    if bytes.len() == SPARSE_RECORD_BYTES {
+        let block = wire::read32(bytes, 6);
+        let table = wire::read16(bytes, 14) as u16;
+        return Description {
+            length: wire::read32(bytes, 2),
+            first: first_length(image, blocks, table, block),
+            block,
+            entries: wire::read32(bytes, 10),
+            table,
+            sparse: true,
+        };
+    }
+    Description {
+        length: wire::read32(bytes, 4),
+        first: wire::read32(bytes, 8),
+        block: wire::read32(bytes, 12),
+        entries: wire::read32(bytes, 16),
+        table: wire::read16(bytes, 20) as u16,
+        sparse: false,
+    }
 }
 
 // Whether one of so many tables, from the first one on, has a reference. Each is looked up again.
@@ -180,7 +170,7 @@ fn among(image: &[u8], blocks: usize, first: u16, count: usize, reference: u16) 
         if reference == table {
             return true;
         }
-        table = next_table(image, blocks, table);
+        table = reference_in(image, blocks, table, 0);
         left -= 1;
     }
     false
@@ -240,6 +230,42 @@ fn reach_table(
     )
 }
 
+// Whether the block with a reference was never written.
+fn never_written(sparse: bool, reference: u16) -> bool
+    ensures { λ r. ⌜ r ≡ neverWritten sparse reference ⌝ }
+{
+    if reference == 0 {
+        return sparse;
+    }
+    false
+}
+
+// Copies what the block with a reference gives to a place of a buffer, of which so many bytes are taken, and answers the number of the first
+// rule that it breaks, 0 where it breaks none.
+fn take_block(
+    image: &[u8],
+    blocks: usize,
+    sparse: bool,
+    reference: u16,
+    count: usize,
+    out: &mut [u8],
+    at: usize,
+) -> usize
+    requires { ⌜ Opens (now image) blocks ⌝ }
+    ensures { λ r. ⌜ Gave (now (image .entry)) sparse reference count at (now (out .entry)) (now (out .exit)) r ⌝ }
+{
+    if never_written(sparse, reference) {
+        wire::write_zeros(out, at, count);
+        return 0;
+    }
+    let block = reach(image, blocks, reference, count, NO_BLOCK, SHORT_BLOCK);
+    if block.fault != 0 {
+        return block.fault;
+    }
+    wire::write_bytes(out, at, wire::part(image, block.offset, count));
+    0
+}
+
 // Copies what the blocks of one table give, of which the first has an index, where so many bytes are missing, up to the first fault.
 fn take_blocks(
     image: &[u8],
@@ -263,11 +289,18 @@ fn take_blocks(
         let index = first + entry;
         let share = share_of(d, index, left);
         let reference = wire::read16(table, 2 + 2 * entry) as u16;
-        let block = reach(image, blocks, reference, share, NO_BLOCK, SHORT_BLOCK);
-        if block.fault != 0 {
-            return stopped(left, block.fault, index);
+        let fault = take_block(
+            image,
+            blocks,
+            d.sparse,
+            reference,
+            share,
+            out,
+            d.length - left,
+        );
+        if fault != 0 {
+            return stopped(left, fault, index);
         }
-        wire::write_bytes(out, d.length - left, wire::part(image, block.offset, share));
         left -= share;
         entry += 1;
     }

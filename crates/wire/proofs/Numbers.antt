@@ -11,7 +11,7 @@ use mathlib.Core.Bool.{Bool, true, false}
 use lib.Dec.{ltb}
 use borrow.Author.Tests.{ltb-true, ltb-false}
 use lib.ListN.{length, getD, take, drop, set, take-append-drop, length-append, length-set, length-drop, drop-of-length-le, List·getD-eq-default, List·getD-append}
-use lib.Seq.{sets, length-sets, sets-eq, set-out, set-append-left, getD-append-add, getD-append-seam, getD-set-same, getD-set-other, getD-drop, take-suc, take-all, take-nil, take-length, length-take-le}
+use lib.Seq.{sets, length-sets, sets-eq, set-out, set-append-left, getD-append-add, getD-append-seam, getD-set-same, getD-set-other, getD-drop, take-suc, take-append-le, drop-append-le, drop-append-add, take-all, take-nil, take-length, length-take-le}
 use Rattle.wire.specs.Numbers.{be, bytes, put, part, Bytes, Reads}
 
 -- the bytes of s and t from a up to e are the same
@@ -263,6 +263,16 @@ put-nowhere out vs after e = ap (λ l. l ++ out) (e ∙ put-past [] 0 vs (omega 
 pub length-part : (s : List ℕ) (at n : ℕ) → at + n ≤ length s → length (part s at n) ≡ n
 unfolding part
 length-part s at n h = length-take-le n (drop at s) (rw length-drop (omega arith))
+
+-- of two lists, one after the other, a part that lies in the first one or starts in the second
+pub part-first : (s t : List ℕ) (at n : ℕ) → at + n ≤ length s → part (s ++ t) at n ≡ part s at n
+unfolding part
+part-first s t at n h =
+    ap (take n) (drop-append-le at s t (omega arith)) ∙ take-append-le n (drop at s) t (omega (arith, length-drop at s))
+
+pub part-second : (s t : List ℕ) (at n a : ℕ) → at ≡ length s + a → part (s ++ t) at n ≡ part t a n
+unfolding part
+part-second s t at n a e = ap (λ k. take n (drop k (s ++ t))) e ∙ ap (take n) (drop-append-add s t a)
 
 -- a part by a start and an end that reach no further than the list
 pub part-clipped : (s : List ℕ) (at n a k : ℕ) → a ≡ min at (length s) → k ≡ min n (length s - a) → take (a + k - a) (drop a s) ≡ part s at n

@@ -3,7 +3,7 @@
 // Every function answers on all inputs. A byte past the end reads as 0, and what would be written past the end is dropped.
 ghost use mathlib.Core.Path.{_≡_};
 ghost use Prim.Native.Nat.{_+_, _<_, _≤_, min};
-ghost use lib.ListN.{length};
+ghost use lib.ListN.{length, replicate};
 ghost use Rattle.wire.specs.Numbers as Numbers;
 ghost use Rattle.wire.specs.Numbers.{bytes, put, Reads};
 
@@ -129,6 +129,24 @@ pub fn write_bytes(s: &mut [u8], at: usize, vs: &[u8])
     let mut i = 0;
     while i < count {
         s[at + i] = vs[i];
+        i += 1;
+    }
+}
+
+// Writes so many zeros to a place. A byte that is 0 is left alone: without that test the compiler would call C's memset, and the library
+// needs no other one.
+pub fn write_zeros(s: &mut [u8], at: usize, count: usize)
+    ensures { λ _. ⌜ now (s .exit) ≡ put (now (s .entry)) at (replicate count 0) ⌝ }
+{
+    if s.len() <= at {
+        return;
+    }
+    let reach = least(s.len() - at, count);
+    let mut i = 0;
+    while i < reach {
+        if s[at + i] != 0 {
+            s[at + i] = 0;
+        }
         i += 1;
     }
 }

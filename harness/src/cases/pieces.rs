@@ -155,8 +155,17 @@ impl Image {
         self.put32(self.offset(slot) + place, number);
     }
 
+    /// How many bytes a slot's element has.
+    pub fn length(&self, slot: usize) -> usize {
+        self.number32(slot + LENGTH)
+    }
+
     fn offset(&self, slot: usize) -> usize {
-        let bytes = &self.front[slot + OFFSET..slot + LENGTH];
+        self.number32(slot + OFFSET)
+    }
+
+    fn number32(&self, place: usize) -> usize {
+        let bytes = &self.front[place..place + 4];
         u32::from_be_bytes(bytes.try_into().expect("four bytes")) as usize
     }
 }

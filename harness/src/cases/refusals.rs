@@ -8,6 +8,7 @@ mod choice;
 mod edits;
 mod elements;
 mod groups;
+mod holes;
 mod links;
 mod list;
 mod lookup;
@@ -18,6 +19,8 @@ mod undo;
 mod vdatas;
 
 use crate::cases::pieces::{FIRST_SLOT, NEXT};
+use crate::storage::Layout;
+use crate::tally::Call;
 use ask::{Answer, Ask, Written};
 use std::collections::BTreeSet;
 
@@ -29,6 +32,8 @@ pub struct Case {
     of: &'static str,
     faults: Vec<&'static str>,
     steps: Vec<Step>,
+    /// Whether a sparse record is read, whose rules are others than those of a full one.
+    is_sparse: bool,
 }
 
 /// A call, the rule that answers it, and what the paper says of it.
@@ -41,6 +46,7 @@ struct Step {
 
 /// A rule, how it is broken, and number and place of the answer; of a broken table or block also its index. The rule is named by
 /// its number and, where others have the same one, by a word.
+#[derive(Clone, Copy)]
 struct Fault {
     rule: &'static str,
     name: &'static str,
@@ -81,7 +87,7 @@ pub fn check() -> Result<[usize; 2], String> {
 }
 
 fn cases() -> Vec<Case> {
-    let elements = [lookup::cases(), elements::cases(), links::cases(), choice::cases()].concat();
+    let elements = [lookup::cases(), elements::cases(), links::cases(), holes::cases(), choice::cases()].concat();
     let reading = [elements, records::cases(), groups::cases(), vdatas::cases()].concat();
     let edits = [edits::cases(), undo::cases()].concat();
     [
@@ -106,19 +112,19 @@ const fn broken(rule: &'static str, name: &'static str, answer: [u64; 3], spoil:
 /// A call that is granted: its values, and what it writes.
 fn granted(of: &'static str, ask: Ask, values: &[u64], written: Written) -> Case {
     let step = Step { rule: NO_RULE, ask, paper: Answer::granted(values, written) };
-    Case { of, faults: Vec::new(), steps: vec![step] }
+    Case { of, faults: Vec::new(), steps: vec![step], is_sparse: false }
 }
 
 /// A call that one rule refuses, with number and place.
 fn refused(of: &'static str, rule: &'static str, ask: Ask, answer: [u64; 2]) -> Case {
     let step = Step { rule, ask, paper: Answer::refused(answer) };
-    Case { of, faults: Vec::new(), steps: vec![step] }
+    Case { of, faults: Vec::new(), steps: vec![step], is_sparse: false }
 }
 
 /// A call that two rules refuse, and the same with the first of them mended.
 fn in_order(of: &'static str, first: (&'static str, Ask, [u64; 2]), mended: (&'static str, Ask, [u64; 2])) -> Case {
     let step = |(rule, ask, answer)| Step { rule, ask, paper: Answer::refused(answer) };
-    Case { of, faults: Vec::new(), steps: vec![step(first), step(mended)] }
+    Case { of, faults: Vec::new(), steps: vec![step(first), step(mended)], is_sparse: false }
 }
 
 /// The cases of one call with each of the faults, whose rules are judged first. Where a case is granted, the fault is alone.
@@ -131,6 +137,14 @@ fn over(faults: &[Fault], cases: &[Case]) -> Vec<Case> {
 fn with(faults: &[Fault], mut cases: Vec<Case>) -> Vec<Case> {
     cases.extend(over(faults, &cases));
     cases
+}
+
+/// The name of a call; that of one on a sparse record stands apart.
+fn name_of_call(call: Call, is_sparse: bool) -> String {
+    match is_sparse {
+        true => format!("{call:?} by 16 bytes"),
+        false => format!("{call:?}"),
+    }
 }
 
 impl Fault {
@@ -150,7 +164,7 @@ impl Fault {
     fn unmet(&self, case: &Case) -> Case {
         let Step { rule, ask, paper } = &case.steps[0];
         let steps = vec![Step { rule, ask: self.in_ask(ask), paper: paper.clone() }];
-        Case { of: case.of, faults: vec![self.name], steps }
+        Case { faults: vec![self.name], steps, ..*case }
     }
 
     /// The case with the fault, whose rule is judged first.
@@ -158,7 +172,7 @@ impl Fault {
         let behind = &case.steps[0];
         let step = Step { rule: self.rule, ask: self.in_ask(&behind.ask), paper: self.paper() };
         let steps = if behind.rule == NO_RULE { vec![step] } else { vec![step, behind.clone()] };
-        Case { of: case.of, faults: [&[self.name], &case.faults[..]].concat(), steps }
+        Case { faults: [&[self.name], &case.faults[..]].concat(), steps, ..*case }
     }
 }
 
@@ -172,11 +186,17 @@ impl Case {
     }
 
     fn name(&self) -> String {
-        let (call, of, faults) = (self.steps[0].ask.call, self.of, self.faults.join(", and "));
+        let call = name_of_call(self.steps[0].ask.call, self.is_sparse);
+        let (of, faults) = (self.of, self.faults.join(", and "));
         match self.faults.as_slice() {
-            [] => format!("refusals, {call:?} of {of}"),
-            _ => format!("refusals, {call:?} of {of}: {faults}"),
+            [] => format!("refusals, {call} of {of}"),
+            _ => format!("refusals, {call} of {of}: {faults}"),
         }
+    }
+
+    /// The case of a linked element whose record has this layout.
+    fn in_layout(self, layout: Layout) -> Case {
+        Case { is_sparse: layout == Layout::Sparse, ..self }
     }
 }
 

@@ -1,4 +1,4 @@
-//! Reading elements: view, copy, and the choice between two files.
+//! Reading elements: view, size, copy, and the choice between two files.
 
 use super::edits::first_difference;
 use super::{differ, Outcome, Pairs, Trial};
@@ -7,7 +7,7 @@ use crate::random::Random;
 use crate::reader::{self, base_tag, Directory, EXTENDED};
 use crate::storage::{self, is_extended, Opening, Reading, Refused, Way};
 use crate::tally::{Call, Tally};
-use hdf4_sys::{self as library, Answer, ChooseAnswer, CopyAnswer, ViewAnswer};
+use hdf4_sys::{self as library, Answer, ChooseAnswer, CopyAnswer, SizeAnswer, ViewAnswer};
 use std::ops::Range;
 
 const PATTERN: u8 = 0xc3;
@@ -22,6 +22,7 @@ const FEW: usize = 4;
 pub fn compare(trial: &mut Trial, pairs: Pairs) -> Outcome {
     for (tag, reference) in pairs_of(trial, pairs) {
         compare_view(trial, tag, reference)?;
+        compare_size(trial, tag, reference)?;
         for room in rooms(trial, tag, reference) {
             compare_copy(trial, tag, reference, room)?;
         }
@@ -56,14 +57,13 @@ fn sample(random: &mut Random, directory: &Directory) -> Vec<(u16, u16)> {
     chosen.into_iter().map(either).collect()
 }
 
-/// Rooms for a copy: exactly enough, one byte too little, more than enough, and none.
+/// Rooms for a copy: exactly enough, one byte too little, more than enough, and none; any, where no room would do.
 fn rooms(trial: &mut Trial, tag: u16, reference: u16) -> Vec<usize> {
-    let Ok(directory) = &trial.directory else { return vec![trial.random.below(40)] };
-    let needed = storage::claimed_length(trial.lent.image(), directory, tag, reference);
-    if needed > MOST_COPIED {
-        return vec![0, trial.random.below(1000)];
-    }
-    let needed = needed as usize;
+    let needed = match storage::size(trial.lent.image(), &trial.directory, tag, reference) {
+        Ok((length, _)) if length <= MOST_COPIED => length as usize,
+        Ok(_) => return vec![0, trial.random.below(1000)],
+        Err(_) => return vec![0, trial.random.below(40)],
+    };
     let mut rooms = vec![needed, needed + trial.random.between(1, 12), 0];
     if needed > 1 {
         rooms.push(needed - 1);
@@ -74,12 +74,24 @@ fn rooms(trial: &mut Trial, tag: u16, reference: u16) -> Vec<usize> {
 fn compare_view(trial: &mut Trial, tag: u16, reference: u16) -> Outcome {
     let library = library::view(trial.lent.image(), tag, reference);
     let reading = storage::view(&trial.directory, tag, reference);
-    trial.tally.count_way(Call::View, way_of(&reading));
+    trial.tally.count_way(Call::View, None, way_of(&reading));
     trial.same(Call::View, &[tag.into(), reference.into()], library, answer(reading, viewed))
 }
 
 pub fn viewed(part: Range<u64>) -> ViewAnswer {
     ViewAnswer { offset: part.start, length: part.end - part.start, ..ViewAnswer::default() }
+}
+
+fn compare_size(trial: &mut Trial, tag: u16, reference: u16) -> Outcome {
+    let library = library::size(trial.lent.image(), tag, reference);
+    let reading = storage::size(trial.lent.image(), &trial.directory, tag, reference);
+    let layout = storage::layout(&trial.directory, tag, reference);
+    trial.tally.count_way(Call::Size, layout, way_of(&reading));
+    trial.same(Call::Size, &[tag.into(), reference.into()], library, answer(reading, sized))
+}
+
+pub fn sized(length: u64) -> SizeAnswer {
+    SizeAnswer { length, ..SizeAnswer::default() }
 }
 
 fn compare_copy(trial: &mut Trial, tag: u16, reference: u16, room: usize) -> Outcome {
@@ -88,7 +100,8 @@ fn compare_copy(trial: &mut Trial, tag: u16, reference: u16, room: usize) -> Out
     let library = library::copy(trial.lent.image(), tag, reference, &mut memory[..room]);
 
     let reading = storage::copy(trial.lent.image(), &trial.directory, tag, reference, room);
-    trial.tally.count_way(Call::Copy, way_of(&reading));
+    let layout = storage::layout(&trial.directory, tag, reference);
+    trial.tally.count_way(Call::Copy, layout, way_of(&reading));
     let mut expected = vec![PATTERN; room + PAST_ROOM];
     if let Ok((bytes, _)) = &reading {
         expected[..bytes.len()].copy_from_slice(bytes);
@@ -157,7 +170,7 @@ fn compare_choose(two: &Two, tag: u16, reference: u16, tally: &mut Tally) -> Out
     let [current, fallback] = &two.openings;
     let library = library::choose(two.current.image(), two.fallback.image(), tag, reference);
     let reading = storage::choose(current, fallback, tag, reference);
-    tally.count_way(Call::Choose, way_of(&reading));
+    tally.count_way(Call::Choose, None, way_of(&reading));
     let expected = answer(reading, chosen);
     if library != expected {
         return differ(Call::Choose, &arguments, format!("{library:?}"), format!("{expected:?}"));
@@ -173,7 +186,7 @@ pub fn chosen((which, part): (u64, Range<u64>)) -> ChooseAnswer {
     ChooseAnswer { which, offset: part.start, length: part.end - part.start, ..ChooseAnswer::default() }
 }
 
-/// What the library must answer to a view or a choice.
+/// What the library must answer to a view, a size or a choice.
 pub fn answer<T, A: Answer>(reading: Reading<T>, granted: impl FnOnce(T) -> A) -> A {
     match reading {
         Ok((value, _)) => granted(value),

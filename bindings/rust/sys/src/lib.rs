@@ -35,7 +35,7 @@
 use std::fmt::Debug;
 
 /// The version of the library.
-pub const VERSION: &str = "0.2.0";
+pub const VERSION: &str = "0.2.1";
 
 /// The most bytes that an image has.
 pub const MOST_BYTES: usize = 2_147_483_647;
@@ -136,7 +136,8 @@ pub const NO_TABLE: u64 = 23;
 /// A table of the element's linked blocks has too few bytes for its entries; the index is the table's.
 pub const SHORT_TABLE: u64 = 24;
 
-/// A linked block is absent or extended, or its reference is 0; the index is the block's, through the whole element.
+/// A linked block is absent or extended, or its reference is 0 by a record of 22 bytes; the index is the block's, through the
+/// whole element.
 pub const NO_BLOCK: u64 = 25;
 
 /// A linked block has fewer bytes than are taken from it; the index is the block's, through the whole element.
@@ -279,6 +280,22 @@ pub struct ViewAnswer {
 
 answer! {
     ViewAnswer: offset, length
+}
+
+/// How many bytes a copy of an element has.
+#[repr(C)]
+#[derive(Clone, Copy, Debug, Default, PartialEq, Eq)]
+pub struct SizeAnswer {
+    /// The refusal's number, 0 where the call is granted.
+    pub number: u64,
+    /// The refusal's place in the image.
+    pub place: u64,
+    /// Bytes of the element.
+    pub length: u64,
+}
+
+answer! {
+    SizeAnswer: length
 }
 
 /// What was copied.
@@ -551,6 +568,8 @@ extern "C" {
     pub fn hdf4_list(image: *const u8, n: usize, table: *mut u32, room: usize) -> ListAnswer;
     /// What [`view`] calls.
     pub fn hdf4_view(image: *const u8, n: usize, tag: u16, reference: u16) -> ViewAnswer;
+    /// What [`size`] calls.
+    pub fn hdf4_size(image: *const u8, n: usize, tag: u16, reference: u16) -> SizeAnswer;
     /// What [`copy`] calls.
     pub fn hdf4_copy(image: *const u8, n: usize, tag: u16, reference: u16, out: *mut u8, room: usize) -> CopyAnswer;
     /// What [`choose`] calls.
@@ -699,9 +718,16 @@ pub fn view(image: &[u8], tag: u16, reference: u16) -> ViewAnswer {
     unsafe { hdf4_view(image.as_ptr(), image.len(), tag, reference) }
 }
 
+/// Tells how many bytes `hdf4_copy` would write, and so how long its output must be. The element is plain or of linked blocks;
+/// their record is judged, and their tables and blocks are not: `hdf4_copy` may still refuse these.
+#[inline]
+pub fn size(image: &[u8], tag: u16, reference: u16) -> SizeAnswer {
+    unsafe { hdf4_size(image.as_ptr(), image.len(), tag, reference) }
+}
+
 /// Copies an element's bytes to the front of a lent output; the rest of it stays as it was. The element is plain or of linked
-/// blocks. Where a table or a block is broken the refusal says which: its place is the element's slot, and its index that of the
-/// first one that a walk meets. The output may not lie in the image.
+/// blocks, of which one that was never written reads as zeros. Where a table or a block is broken the refusal says which: its
+/// place is the element's slot, and its index that of the first one that a walk meets. The output may not lie in the image.
 #[inline]
 pub fn copy(image: &[u8], tag: u16, reference: u16, out: &mut [u8]) -> CopyAnswer {
     unsafe { hdf4_copy(image.as_ptr(), image.len(), tag, reference, out.as_mut_ptr(), out.len()) }

@@ -72,6 +72,7 @@ fn call(ask: &Ask, image: &[u8], fallback: &[u8], tables: &mut Tables) -> Vec<u6
         Call::Find => library::find(image, tag, reference).numbers(),
         Call::List => library::list(image, longs.lend()).numbers(),
         Call::View => library::view(image, tag, reference).numbers(),
+        Call::Size => library::size(image, tag, reference).numbers(),
         Call::Copy => library::copy(image, tag, reference, bytes.lend()).numbers(),
         Call::Choose => library::choose(image, fallback, tag, reference).numbers(),
         Call::ReadNumberType => library::read_number_type(image, reference).numbers(),

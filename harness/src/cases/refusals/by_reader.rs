@@ -5,7 +5,7 @@ use crate::compare::directory::{expected_find, expected_list, expected_open};
 use crate::compare::edits::expected;
 use crate::compare::packing::packed;
 use crate::compare::records::{answer, array_read, dimension_read, number_type_read};
-use crate::compare::storage::{self as compared, chosen, copied, viewed};
+use crate::compare::storage::{self as compared, chosen, copied, sized, viewed};
 use crate::compare::vset::{field_names, fields_of, group_listed, group_read, value_read, vdata_read};
 use crate::editor::{self, Request};
 use crate::packing;
@@ -50,6 +50,7 @@ fn read(ask: &Ask, image: &[u8], opening: &Opening) -> Answer {
             with(listed, Written { longs, ..Written::default() })
         }
         Call::View => only(compared::answer(storage::view(opening, tag, reference), viewed)),
+        Call::Size => only(compared::answer(storage::size(image, opening, tag, reference), sized)),
         Call::Copy => copy(image, opening, (tag, reference), rooms.bytes),
         Call::Choose => {
             let fallback = reader::open(&ask.fallback.bytes());

@@ -1,16 +1,19 @@
 //! Copies of linked elements whose tables or blocks are broken. The first fault that is met on the walk answers, at the slot of
 //! the element, with the index of the table or of the block. Where a reference is 0, there is an element with the reference 0.
+//! Sizes of the same elements: none of these faults is met.
 
 use super::ask::{Ask, Written};
-use super::elements::{copy, four_blocks, linked, record, BAD_RECORD, OTHER_KIND, PLAIN_20, SMALL};
-use super::elements::{BLOCK, LAST_BLOCK, LENGTH, LINK_REF, RECORD, SECOND_BLOCK, SECOND_TABLE, TABLE, THIRD_BLOCK};
+use super::elements::{copy, four_blocks, linked, nine_bytes, of_record, record, size, PLAIN_20, SMALL};
+use super::elements::{put_element_length, put_link_ref};
+use super::elements::{BLOCK, LAST_BLOCK, SECOND_BLOCK, SECOND_TABLE, TABLE, THIRD_BLOCK};
 use super::{broken, granted, over, Case, Fault};
-use crate::cases::pieces::{file, numbers16};
+use crate::cases::pieces::{file, numbers16, Image};
+use crate::storage::Layout;
 
 /// Where the fields of a table stand in it.
 const NEXT_REF: usize = 0;
-const BLOCK_REF: usize = 2;
-const SECOND_REF: usize = 4;
+pub const BLOCK_REF: usize = 2;
+pub const SECOND_REF: usize = 4;
 
 const EXTENDED_20: u16 = 16404;
 const OTHER_TAG: u16 = 21;
@@ -18,7 +21,7 @@ const OTHER_TAG: u16 = 21;
 // ---- The element of four blocks
 
 const NO_TABLE: [Fault; 3] = [
-    broken("23 zero", "table 0", [23, 22, 0], zero::<RECORD, LINK_REF>),
+    broken("23 zero", "table 0", [23, 22, 0], |ask| put_link_ref(&mut ask.image, 0)),
     broken("23 absent", "no table", [23, 22, 0], absent::<TABLE>),
     broken("23 extended", "an extended table", [23, 22, 0], extended::<TABLE>),
 ];
@@ -93,11 +96,11 @@ const NO_THIRD_TABLE: [Fault; 2] = [
 /// What is judged for the first three bytes, for two more, for two more, and for the last two; in the order of the walk. And what
 /// is judged for more bytes than the four blocks have.
 const FOR_BLOCK: [&[Fault]; 4] = [&NO_TABLE, &SHORT_TABLE, &NO_BLOCK, &SHORT_BLOCK];
-const FOR_SECOND: [&[Fault]; 2] = [&NO_SECOND_BLOCK, &SHORT_SECOND_BLOCK];
-const FOR_THIRD: [&[Fault]; 5] =
+pub const FOR_SECOND: [&[Fault]; 2] = [&NO_SECOND_BLOCK, &SHORT_SECOND_BLOCK];
+pub const FOR_THIRD: [&[Fault]; 5] =
     [&TABLE_TWICE, &NO_SECOND_TABLE, &SHORT_SECOND_TABLE, &NO_THIRD_BLOCK, &SHORT_THIRD_BLOCK];
-const FOR_LAST: [&[Fault]; 2] = [&NO_LAST_BLOCK, &SHORT_LAST_BLOCK];
-const FOR_MORE: [&[Fault]; 2] = [&THIRD_TABLE_TWICE, &NO_THIRD_TABLE];
+pub const FOR_LAST: [&[Fault]; 2] = [&NO_LAST_BLOCK, &SHORT_LAST_BLOCK];
+pub const FOR_MORE: [&[Fault]; 2] = [&THIRD_TABLE_TWICE, &NO_THIRD_TABLE];
 
 // ---- An element of 257 tables
 
@@ -121,7 +124,7 @@ const MANY_TABLES_AND_TWICE: [Fault; 1] =
 
 /// Faults that are met before the 257th of all tables.
 const BEFORE_MANY: [Fault; 10] = [
-    broken("23 zero", "table 0", [23, 22, 0], zero::<RECORD, LINK_REF>),
+    broken("23 zero", "table 0", [23, 22, 0], |ask| put_link_ref(&mut ask.image, 0)),
     broken("23 absent", "no table", [23, 22, 0], absent::<TABLE_1>),
     broken("23 extended", "an extended table", [23, 22, 0], extended::<TABLE_1>),
     broken("24", "a table of 3 bytes", [24, 22, 0], shorter::<TABLE_1, 3>),
@@ -150,8 +153,12 @@ const OF_TABLE_257: [Fault; 8] = [
 /// The reference of block 70,000 of the wide tables, in the second of them.
 const REF_70_000: usize = BLOCK_REF + 2 * 30_000;
 
-const FAR_BLOCK: [Fault; 1] =
-    [broken("25 far zero", "a block 0 at 70,000", [25, 22, 70_000], zero::<SECOND_TABLE, REF_70_000>)];
+const FAR_BLOCK: [Fault; 2] = [
+    broken("25 far zero", "a block 0 at 70,000", [25, 22, 70_000], zero::<SECOND_TABLE, REF_70_000>),
+    broken("25 far absent", "no block at 70,000", [25, 22, 70_000], |ask| {
+        ask.image.put16_in(SECOND_TABLE, REF_70_000, 4);
+    }),
+];
 
 /// Here the slots are those of the table, of two blocks and of the element.
 const BEFORE_THE_ELEMENT: [Fault; 4] = [
@@ -162,19 +169,25 @@ const BEFORE_THE_ELEMENT: [Fault; 4] = [
 ];
 
 pub fn cases() -> Vec<Case> {
-    [walks(), not_needed(), long_chains(), wide_tables(), behind_its_blocks()].concat()
+    let of = |layout| {
+        let copies = [walks(layout), not_needed(layout), long_chains(layout), wide_tables(layout)].concat();
+        [copies, behind_its_blocks(layout), sizes(layout)].concat()
+    };
+    [of(Layout::Full), of(Layout::Sparse)].concat()
 }
 
 /// Each fault of the walk behind those of the record and the room, and behind each that is met before it.
-fn walks() -> Vec<Case> {
-    let copied = [four_blocks()];
+fn walks(layout: Layout) -> Vec<Case> {
+    let copied = [four_blocks(layout)];
     let walk = [&FOR_BLOCK[..], &FOR_SECOND, &FOR_THIRD, &FOR_LAST, &FOR_MORE].concat();
-    let alone = |stages: &[&[Fault]]| -> Vec<Case> { stages.iter().flat_map(|faults| over(faults, &copied)).collect() };
-    let before_later = |(at, faults): (usize, &&[Fault])| over(faults, &alone(&walk[at + 1..]));
+    let walk: Vec<Vec<Fault>> = walk.into_iter().map(|faults| faults_in(layout, faults)).collect();
+    let alone =
+        |stages: &[Vec<Fault>]| -> Vec<Case> { stages.iter().flat_map(|faults| over(faults, &copied)).collect() };
+    let before_later = |(at, faults): (usize, &Vec<Fault>)| over(faults, &alone(&walk[at + 1..]));
     let all = alone(&walk);
     [
-        over(&OTHER_KIND, &all),
-        over(&BAD_RECORD, &all),
+        over(&of_record(layout).kind, &all),
+        over(of_record(layout).rest, &all),
         over(&SMALL, &all),
         walk.iter().enumerate().flat_map(before_later).collect(),
         all,
@@ -182,14 +195,23 @@ fn walks() -> Vec<Case> {
     .concat()
 }
 
+/// Those of the faults that a walk in this layout can meet. In a sparse element a block 0 is a hole, and the first block is as
+/// long as it is.
+pub fn faults_in(layout: Layout, faults: &[Fault]) -> Vec<Fault> {
+    let is_only_full = |rule: &str| rule == "26" || (rule.starts_with("25") && rule.ends_with("zero"));
+    faults.iter().filter(|fault| layout == Layout::Full || !is_only_full(fault.rule)).copied().collect()
+}
+
 /// Nothing past the length is judged: the faults of tables and blocks that only further bytes need do not answer. A needed table
 /// must be whole, also for one of its blocks; of a needed block only what is taken.
-fn not_needed() -> Vec<Case> {
+fn not_needed(layout: Layout) -> Vec<Case> {
+    let shortened = |of, bytes: &[u8]| {
+        let image = with_length(layout, bytes.len() as u32);
+        let values = [bytes.len() as u64, 0];
+        granted(of, copy(302, image, bytes.len()), &values, Written::bytes(bytes)).in_layout(layout)
+    };
     let (nothing, block) = (shortened("no bytes", b""), shortened("one block", b"sig"));
     let (second, third) = (shortened("two blocks", b"signa"), shortened("three blocks", b"signalb"));
-    let unmet = |case: &Case, stages: &[&[Fault]]| -> Vec<Case> {
-        stages.iter().flat_map(|faults| faults.iter().map(|fault| fault.unmet(case))).collect()
-    };
     [
         unmet(&nothing, &[&FOR_BLOCK[..], &FOR_SECOND, &FOR_THIRD, &FOR_LAST].concat()),
         unmet(&block, &[&FOR_SECOND[..], &FOR_THIRD, &FOR_LAST].concat()),
@@ -202,20 +224,22 @@ fn not_needed() -> Vec<Case> {
     .concat()
 }
 
+/// A case with each of the faults, of which none is met.
+fn unmet(case: &Case, stages: &[&[Fault]]) -> Vec<Case> {
+    stages.iter().flat_map(|faults| faults.iter().map(|fault| fault.unmet(case))).collect()
+}
+
 /// A chain of 256 tables with a block each, which are those from 2 to 257; and with the first of all one too many.
-fn long_chains() -> Vec<Case> {
-    let mut elements =
-        vec![(16686, 1, record([256, 1, 1, 1], 2)), (PLAIN_20, 300, b"x".to_vec()), (PLAIN_20, 301, b"y".to_vec())];
-    elements.extend((1..257).map(|table| (PLAIN_20, table, numbers16(&[table + 1, 300]))));
-    elements.extend([(PLAIN_20, 257, numbers16(&[0, 301])), (PLAIN_20, 0, numbers16(&[257, 300]))]);
+fn long_chains(layout: Layout) -> Vec<Case> {
     let bytes = [&[b'x'; 255][..], b"y"].concat();
-    let copied = [granted("256 tables", copy(302, file(&elements), 300), &[256, 0], Written::bytes(&bytes))];
+    let copy = copy(302, many_tables(layout), 300);
+    let copied = [granted("256 tables", copy, &[256, 0], Written::bytes(&bytes)).in_layout(layout)];
     let many = over(&MANY_TABLES, &copied);
-    let last = over(&OF_TABLE_257, &copied);
+    let last = over(&faults_in(layout, &OF_TABLE_257), &copied);
     [
         over(&SMALL, &many),
         over(&SMALL, &last),
-        over(&BEFORE_MANY, &many),
+        over(&faults_in(layout, &BEFORE_MANY), &many),
         over(&MANY_TABLES, &last),
         over(&MANY_TABLES_AND_TWICE, &copied),
         many,
@@ -225,60 +249,83 @@ fn long_chains() -> Vec<Case> {
     .concat()
 }
 
+fn many_tables(layout: Layout) -> Image {
+    let record = record(layout, [256, 1, 1, 1], 2);
+    let mut elements = vec![(16686, 1, record), (PLAIN_20, 300, b"x".to_vec()), (PLAIN_20, 301, b"y".to_vec())];
+    elements.extend((1..257).map(|table| (PLAIN_20, table, numbers16(&[table + 1, 300]))));
+    elements.extend([(PLAIN_20, 257, numbers16(&[0, 301])), (PLAIN_20, 0, numbers16(&[257, 300]))]);
+    file(&elements)
+}
+
 /// Two tables of 40,000 references to one block: an index has more than 16 bits.
-fn wide_tables() -> Vec<Case> {
+fn wide_tables(layout: Layout) -> Vec<Case> {
     let table = |next| [numbers16(&[next]), numbers16(&[3; 40_000])].concat();
     let image = file(&[
-        (16686, 1, record([70_001, 1, 1, 40_000], 1)),
+        (16686, 1, record(layout, [70_001, 1, 1, 40_000], 1)),
         (PLAIN_20, 1, table(2)),
         (PLAIN_20, 2, table(0)),
         (PLAIN_20, 3, b"z".to_vec()),
         (PLAIN_20, 0, b"0".to_vec()),
     ]);
-    let copied = [granted("wide tables", copy(302, image, 70_001), &[70_001, 0], Written::bytes(&[b'z'; 70_001]))];
-    let far = over(&FAR_BLOCK, &copied);
+    let (copy, written) = (copy(302, image, 70_001), Written::bytes(&[b'z'; 70_001]));
+    let copied = [granted("wide tables", copy, &[70_001, 0], written).in_layout(layout)];
+    let far = over(&faults_in(layout, &FAR_BLOCK), &copied);
     [over(&SMALL, &far), far, copied.into()].concat()
 }
 
 /// The place is that of the element, here the last slot.
-fn behind_its_blocks() -> Vec<Case> {
+fn behind_its_blocks(layout: Layout) -> Vec<Case> {
     let image = file(&[
         (PLAIN_20, 1, numbers16(&[0, 2, 3])),
         (PLAIN_20, 2, b"sig".to_vec()),
         (PLAIN_20, 3, b"na".to_vec()),
-        (16686, 1, record([5, 3, 2, 2], 1)),
+        (16686, 1, record(layout, [5, 3, 2, 2], 1)),
     ]);
-    let copied = [granted("a last slot", copy(16686, image, 5), &[5, 0], Written::bytes(b"signa"))];
+    let copied = [granted("a last slot", copy(16686, image, 5), &[5, 0], Written::bytes(b"signa")).in_layout(layout)];
     [over(&BEFORE_THE_ELEMENT, &copied), copied.into()].concat()
 }
 
-/// The copy of the element of four blocks with a shorter length.
-fn shortened(of: &'static str, bytes: &[u8]) -> Case {
-    let mut image = linked();
-    image.put32_in(RECORD, LENGTH, bytes.len() as u32);
-    granted(of, copy(302, image, bytes.len()), &[bytes.len() as u64, 0], Written::bytes(bytes))
+/// The size is told without a look at tables and blocks.
+fn sizes(layout: Layout) -> Vec<Case> {
+    let sized = |of, image, length| granted(of, size(302, image), &[length], Written::default()).in_layout(layout);
+    let eleven = sized("eleven bytes", with_length(layout, 11), 11);
+    let mut many = sized("257 tables", many_tables(layout), 257);
+    all_tables(&mut many.steps[0].ask);
+    [
+        unmet(&nine_bytes(layout), &[&FOR_BLOCK[..], &FOR_SECOND, &FOR_THIRD, &FOR_LAST].concat()),
+        unmet(&eleven, &FOR_MORE),
+        vec![eleven, many],
+    ]
+    .concat()
+}
+
+/// The element of four blocks with another length.
+pub fn with_length(layout: Layout, length: u32) -> Image {
+    let mut image = linked(layout);
+    put_element_length(&mut image, length);
+    image
 }
 
 // ---- How a table or a block is spoilt
 
 /// The chain of all 257 tables.
 fn all_tables(ask: &mut Ask) {
-    ask.image.put16_in(RECORD, LINK_REF, 1);
-    ask.image.put32_in(RECORD, LENGTH, 257);
+    put_link_ref(&mut ask.image, 1);
+    put_element_length(&mut ask.image, 257);
 }
 
 /// A third table is needed, and the second one leads to this one.
 fn third_table<const REFERENCE: u16>(ask: &mut Ask) {
-    ask.image.put32_in(RECORD, LENGTH, 11);
+    put_element_length(&mut ask.image, 11);
     ask.image.put16_in(SECOND_TABLE, NEXT_REF, REFERENCE);
 }
 
 /// A reference in a slot's element is 0.
-fn zero<const SLOT: usize, const PLACE: usize>(ask: &mut Ask) {
+pub fn zero<const SLOT: usize, const PLACE: usize>(ask: &mut Ask) {
     ask.image.put16_in(SLOT, PLACE, 0);
 }
 
-fn absent<const SLOT: usize>(ask: &mut Ask) {
+pub fn absent<const SLOT: usize>(ask: &mut Ask) {
     ask.image.put_tag(SLOT, OTHER_TAG);
 }
 
@@ -286,6 +333,6 @@ fn extended<const SLOT: usize>(ask: &mut Ask) {
     ask.image.put_tag(SLOT, EXTENDED_20);
 }
 
-fn shorter<const SLOT: usize, const LENGTH: u32>(ask: &mut Ask) {
+pub fn shorter<const SLOT: usize, const LENGTH: u32>(ask: &mut Ask) {
     ask.image.put_length(SLOT, LENGTH);
 }

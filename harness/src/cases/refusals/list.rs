@@ -1,7 +1,7 @@
 //! What must have a case, written down from the paper: for each call the rules that can refuse it, and of each two that one
 //! input can break the one that is judged first. A rule is named by its number and, where others have the same, by a word.
 
-use super::{Case, NO_RULE};
+use super::{name_of_call, Case, NO_RULE};
 use crate::tally::{Call, CALLS};
 use std::collections::BTreeSet;
 
@@ -12,9 +12,10 @@ type Rules = &'static [&'static str];
 
 /// What must be shown of some calls: that they are granted; each rule alone; the rules ahead before those of opening and those
 /// behind, and those of opening before those behind; rules that are judged each before each of others; and further rules behind,
-/// in stages, those of each stage judged before those of all later ones.
+/// in stages, those of each stage judged before those of all later ones. What is shown of a sparse record is listed apart.
 struct Must {
     calls: &'static [Call],
+    is_sparse: bool,
     ahead: Rules,
     opening: Rules,
     behind: Rules,
@@ -22,7 +23,7 @@ struct Must {
     stages: &'static [Rules],
 }
 
-/// A call, and the rule or the two rules of which there must be a case.
+/// The name of a call, and the rule or the two rules of which there must be a case.
 type Shown = (String, Vec<&'static str>);
 
 /// Complains of what must have a case and has none, and of cases that the list does not name. Answers how long the list is.
@@ -60,13 +61,13 @@ pub fn number_of(rule: &str) -> &str {
 }
 
 fn shown_by(case: &Case) -> Shown {
-    let call = case.steps[0].ask.call;
-    (format!("{call:?}"), case.steps.iter().map(|step| step.rule).collect())
+    let call = name_of_call(case.steps[0].ask.call, case.is_sparse);
+    (call, case.steps.iter().map(|step| step.rule).collect())
 }
 
 impl Must {
     fn shown(&self) -> Vec<Shown> {
-        let Must { calls, ahead, opening, behind, order, stages } = *self;
+        let Must { calls, is_sparse, ahead, opening, behind, order, stages } = *self;
         let behind = &[behind, &stages.concat()].concat();
         let alone = [&[NO_RULE], ahead, opening, behind].concat();
         let mut rules: Vec<Vec<&'static str>> = alone.into_iter().map(|rule| vec![rule]).collect();
@@ -76,20 +77,27 @@ impl Must {
         [(ahead, opening)].iter().chain(order).for_each(|(first, second)| add(first, second));
         [ahead, opening].iter().for_each(|first| add(first, behind));
         stages.iter().enumerate().for_each(|(at, first)| add(first, &stages[at + 1..].concat()));
-        let of =
-            |call: &Call| -> Vec<Shown> { rules.iter().map(|rules| (format!("{call:?}"), rules.clone())).collect() };
+        let of = |call: &Call| {
+            let name = name_of_call(*call, is_sparse);
+            rules.iter().map(move |rules| (name.clone(), rules.clone()))
+        };
         calls.iter().flat_map(of).collect()
     }
 }
 
-const ALL: [Must; 26] = [
+const ALL: [Must; 31] = [
     OPEN,
     FIND,
     LIST,
     VIEW,
+    SIZE,
+    SIZE_SPARSE,
     COPY,
     COPY_LONG,
     COPY_FAR,
+    COPY_SPARSE,
+    COPY_SPARSE_LONG,
+    COPY_SPARSE_FAR,
     CHOOSE,
     ADD,
     REPLACE_REMOVE,
@@ -113,17 +121,17 @@ const ALL: [Must; 26] = [
 
 /// A call that reads an image.
 const fn reading(calls: &'static [Call], behind: Rules, order: &'static [(Rules, Rules)]) -> Must {
-    Must { calls, ahead: &["1"], opening: OPENING, behind, order, stages: &[] }
+    Must { calls, is_sparse: false, ahead: &["1"], opening: OPENING, behind, order, stages: &[] }
 }
 
 /// A call on a buffer. The length that it is given may be past the buffer, or past the limit.
 const fn editing(calls: &'static [Call], behind: Rules, order: &'static [(Rules, Rules)]) -> Must {
-    Must { calls, ahead: &["1 buffer", "1 limit"], opening: OPENING, behind, order, stages: &[] }
+    Must { ahead: &["1 buffer", "1 limit"], ..reading(calls, behind, order) }
 }
 
 /// A call that opens nothing.
 const fn packing(calls: &'static [Call], behind: Rules, order: &'static [(Rules, Rules)]) -> Must {
-    Must { calls, ahead: &[], opening: &[], behind, order, stages: &[] }
+    Must { ahead: &[], opening: &[], ..reading(calls, behind, order) }
 }
 
 /// Opening comes first in every call. Shown for each are its length, its first bytes, a fault of the chain and one of a slot.
@@ -132,7 +140,6 @@ const OPENING: Rules = &["2", "4", "7"];
 /// Opening itself. A block already walked lies inside: 4 and 3 do not meet. A head that is cut has no next block. That a block
 /// which is cut meets 1 takes a file past the limit with a block at its end, which no case holds; one far outside meets 1 too.
 const OPEN: Must = Must {
-    calls: &[Call::Open],
     ahead: &[],
     opening: &[],
     behind: &["1", "2", "3 header", "3 block", "4", "5", "6 blocks", "6 slots", "7", "8", "9", "10"],
@@ -154,7 +161,7 @@ const OPEN: Must = Must {
         // Of one slot, or of a slot and a later one.
         (SLOT, SLOT),
     ],
-    stages: &[],
+    ..reading(&[Call::Open], &[], &[])
 };
 
 const SLOT: Rules = &["7", "8", "9", "10"];
@@ -166,6 +173,25 @@ const LIST: Must = reading(&[Call::List], &["14"], &[]);
 /// A pair that is absent has no storage.
 const VIEW: Must = reading(&[Call::View], &["11", "12"], &[]);
 
+/// A record under 4 bytes has no kind. The chain is not judged.
+const SIZE: Must = Must {
+    order: &[(&["13 cut"], &["12"])],
+    stages: &[&["12"], BAD_RECORD],
+    ..reading(&[Call::Size], &["11", "13 cut"], &[])
+};
+
+const BAD_RECORD: Rules = &["13 size", "13 first_len", "13 blk_len", "13 num_blk"];
+
+/// A sparse record has no first_len.
+const SIZE_SPARSE: Must = Must {
+    is_sparse: true,
+    order: &[(&["13 cut"], &["12"])],
+    stages: &[&["12"], BAD_SPARSE_RECORD],
+    ..reading(&[Call::Size], &["13 cut"], &[])
+};
+
+const BAD_SPARSE_RECORD: Rules = &["13 size", "13 blk_len", "13 num_blk"];
+
 /// A record under 4 bytes has no length, and so no room that is too small, and no table. The tables and blocks are those of an
 /// element of four blocks, two for each table, or of a longer one that would need a third table. A first table repeats none, and
 /// one that repeats another is there and whole.
@@ -174,7 +200,7 @@ const COPY: Must = Must {
     order: &[(&["13 cut"], &["12"])],
     stages: &[
         &["12"],
-        &["13 size", "13 first_len", "13 blk_len", "13 num_blk"],
+        BAD_RECORD,
         &["14"],
         &["23 zero", "23 absent", "23 extended"],
         &["24"],
@@ -197,9 +223,11 @@ const COPY: Must = Must {
 
 /// A chain that comes to a 257th table, and the same where it is the 256th and is broken or has a broken block.
 const COPY_LONG: Must = Must {
+    behind: &["25 256th zero"],
     order: &[
         (&["23 zero", "23 absent", "23 extended", "24"], &["27 257th"]),
         (&["25 zero", "25 absent", "25 extended", "26", "27 twice"], &["27 257th"]),
+        (&["14", "27 257th"], &["25 256th zero"]),
     ],
     stages: &[&["14"], &["27 257th"], AT_256TH],
     ..reading(&[Call::Copy], &[], &[])
@@ -210,14 +238,53 @@ const AT_256TH: Rules = &[
     "23 256th absent",
     "23 256th extended",
     "24 256th",
-    "25 256th zero",
     "25 256th absent",
     "25 256th extended",
     "26 256th",
 ];
 
 /// An index of more than 16 bits.
-const COPY_FAR: Must = reading(&[Call::Copy], &["14", "25 far zero"], &[(&["14"], &["25 far zero"])]);
+const COPY_FAR: Must =
+    Must { stages: &[&["14"], &["25 far zero", "25 far absent"]], ..reading(&[Call::Copy], &[], &[]) };
+
+/// A sparse record has no first_len. A block of reference 0 is a hole, and a first block is never too short.
+const COPY_SPARSE: Must = Must {
+    is_sparse: true,
+    order: &[(&["13 cut"], &["12"])],
+    stages: &[
+        &["12"],
+        BAD_SPARSE_RECORD,
+        &["14"],
+        &["23 zero", "23 absent", "23 extended"],
+        &["24"],
+        &["25 absent", "25 extended"],
+        &["25 second absent", "25 second extended"],
+        &["26 second"],
+        &["27 twice"],
+        &["23 second zero", "23 second absent", "23 second extended"],
+        &["24 second"],
+        &["25 third absent", "25 third extended"],
+        &["26 third"],
+        &["25 last absent", "25 last extended"],
+        &["26 last"],
+        &["27 third"],
+        &["23 third zero", "23 third absent"],
+    ],
+    ..reading(&[Call::Copy], &["13 cut"], &[])
+};
+
+const COPY_SPARSE_LONG: Must = Must {
+    is_sparse: true,
+    order: &[
+        (&["23 zero", "23 absent", "23 extended", "24"], &["27 257th"]),
+        (&["25 absent", "25 extended", "27 twice"], &["27 257th"]),
+    ],
+    stages: &[&["14"], &["27 257th"], AT_256TH],
+    ..reading(&[Call::Copy], &[], &[])
+};
+
+const COPY_SPARSE_FAR: Must =
+    Must { is_sparse: true, stages: &[&["14"], &["25 far absent"]], ..reading(&[Call::Copy], &[], &[]) };
 
 const CHOOSE: Must = reading(
     &[Call::Choose],
@@ -252,9 +319,7 @@ const UNDO: Must = editing(&[Call::Undo], &["20"], &[]);
 /// Two rules of a trailer answer the same. A length before is not too long and too short at once. That a trailer meets a length
 /// past the limit takes a file with a trailer there, which no case holds.
 const UNDO_TRAILER: Must = Must {
-    calls: &[Call::Undo],
     ahead: &["1 buffer"],
-    opening: OPENING,
     behind: &[
         "21 length before",
         "21 past",
@@ -272,7 +337,7 @@ const UNDO_TRAILER: Must = Must {
         (&["21 padding"], &["21 previous", "21 restored"]),
         (&["21 previous"], &["21 restored"]),
     ],
-    stages: &[],
+    ..editing(&[Call::Undo], &[], &[])
 };
 
 const NUMBER_TYPE: Must = reading(&[Call::ReadNumberType], &["11", "12", "15"], &[(&["12"], &["15"])]);

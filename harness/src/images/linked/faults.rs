@@ -1,17 +1,26 @@
 //! What can be wrong with a linked element. A table or block past the length is hit as well as one that is needed; then the
 //! element is whole nevertheless.
 
-use super::{Plan, BLOCK_COUNT, BLOCK_LENGTH, FIRST_LENGTH, KIND, LENGTH, TABLE};
+use super::Plan;
 use crate::images::parts::Part;
 use crate::random::Random;
 use crate::reader::FREE;
+use crate::storage::{Layout, LINKED};
 
 pub type Fault = fn(&mut Random, &mut Plan);
 
-const OF_THE_RECORD: [Fault; 9] = [
+/// Where the kind stands in a record.
+const KIND: usize = 0;
+
+/// Other kinds, in a full record and in a sparse one. Some would be right in the other.
+const IN_32_BITS: [u32; 8] = [0, 2, 3, 5, 0x0001_0000, 0x0001_0001, 0x0100_0000, u32::MAX];
+const IN_16_BITS: [u16; 7] = [0, 0, 2, 3, 5, 0x0100, u16::MAX];
+
+const OF_THE_RECORD: [Fault; 10] = [
     record_cut,
     record_size,
     other_kind,
+    kind_of_other_size,
     zero_field,
     less_length,
     a_little_more_length,
@@ -20,7 +29,7 @@ const OF_THE_RECORD: [Fault; 9] = [
     absurd_block_length,
 ];
 
-const OF_THE_LINKS: [Fault; 14] = [
+const OF_THE_LINKS: [Fault; 15] = [
     table_absent,
     table_extended,
     table_short,
@@ -31,6 +40,7 @@ const OF_THE_LINKS: [Fault; 14] = [
     block_absent,
     block_extended,
     block_short,
+    first_block_size,
     block_again,
     block_zero,
     block_elsewhere,
@@ -66,52 +76,63 @@ fn record_cut(random: &mut Random, plan: &mut Plan) {
     plan.record.bytes.truncate(random.below(4));
 }
 
-/// From 4 bytes on, but not 22.
+/// From 4 bytes on: of neither layout, or of the other one.
 fn record_size(random: &mut Random, plan: &mut Plan) {
-    let size = random.pick(&[4, 8, 20, 21, 21, 23, 23, 24, 40]);
+    let size = random.pick(&[4, 5, 8, 14, 15, 15, 16, 17, 17, 20, 21, 21, 22, 23, 23, 24, 40]);
     plan.record.bytes.resize(size, 0);
 }
 
-/// Another kind, at times in a short record.
 fn other_kind(random: &mut Random, plan: &mut Plan) {
-    let kind = random.pick(&[0, 2, 3, 5, 0x0001_0001, 0x0100_0000, u32::MAX]);
-    plan.record.put32(KIND, kind);
-    if random.once_in(3) {
-        plan.record.bytes.truncate(random.between(4, 22));
+    match plan.layout {
+        Layout::Full => plan.record.put32(KIND, random.pick(&IN_32_BITS)),
+        Layout::Sparse => plan.record.put(KIND, &random.pick(&IN_16_BITS).to_be_bytes()),
     }
 }
 
+/// The right kind or another one, of 32 bits or of 16 in either layout, in a record of any length.
+fn kind_of_other_size(random: &mut Random, plan: &mut Plan) {
+    let (long, short) = (random.pick(&IN_32_BITS), random.pick(&IN_16_BITS));
+    match random.below(4) {
+        0 => plan.record.put32(KIND, LINKED.into()),
+        1 => plan.record.put(KIND, &LINKED.to_be_bytes()),
+        2 => plan.record.put32(KIND, long),
+        _ => plan.record.put(KIND, &short.to_be_bytes()),
+    }
+    plan.record.bytes.resize(random.between(4, 24), 0);
+}
+
 fn zero_field(random: &mut Random, plan: &mut Plan) {
-    plan.record.put32(random.pick(&[FIRST_LENGTH, BLOCK_LENGTH, BLOCK_COUNT]), 0);
+    let block_length = random.pick(plan.places().block_lengths);
+    plan.record.put32(random.pick(&[block_length, block_length, plan.places().block_count]), 0);
 }
 
 /// Fewer bytes, so that the last tables and blocks are not needed; no byte at times.
 fn less_length(random: &mut Random, plan: &mut Plan) {
-    let length = plan.record.get32(LENGTH);
+    let length = plan.record.get32(plan.places().length);
     let fewer = random.below(length as usize + 1) as u32;
-    plan.record.put32(LENGTH, random.pick(&[fewer, fewer, fewer, length.saturating_sub(1), 0]));
+    plan.put_length(random.pick(&[fewer, fewer, fewer, length.saturating_sub(1), 0]));
 }
 
 /// A few bytes more than the blocks were made for.
 fn a_little_more_length(random: &mut Random, plan: &mut Plan) {
-    let length = plan.record.get32(LENGTH).wrapping_add(random.between(1, 13) as u32);
-    plan.record.put32(LENGTH, length);
+    let length = plan.record.get32(plan.places().length).wrapping_add(random.between(1, 13) as u32);
+    plan.put_length(length);
 }
 
 fn absurd_length(random: &mut Random, plan: &mut Plan) {
-    let length = random.pick(&[100_000, 1 << 20, 1 << 31, u32::MAX - 1, u32::MAX]);
-    plan.record.put32(LENGTH, length);
+    plan.put_length(random.pick(&[100_000, 1 << 20, 1 << 31, u32::MAX - 1, u32::MAX]));
 }
 
 /// More entries than the tables have, also such that 32 bits would cut their size.
 fn absurd_block_count(random: &mut Random, plan: &mut Plan) {
-    let more = plan.record.get32(BLOCK_COUNT).wrapping_add(1);
+    let field = plan.places().block_count;
+    let more = plan.record.get32(field).wrapping_add(1);
     let count = random.pick(&[more, more, 0x7fff_fffe, 0x7fff_ffff, 1 << 31, (1 << 31) + 1, u32::MAX]);
-    plan.record.put32(BLOCK_COUNT, count);
+    plan.record.put32(field, count);
 }
 
 fn absurd_block_length(random: &mut Random, plan: &mut Plan) {
-    let field = random.pick(&[FIRST_LENGTH, BLOCK_LENGTH]);
+    let field = random.pick(plan.places().block_lengths);
     let more = plan.record.get32(field).wrapping_add(1);
     plan.record.put32(field, random.pick(&[more, 1 << 31, u32::MAX]));
 }
@@ -126,7 +147,7 @@ fn table_extended(random: &mut Random, plan: &mut Plan) {
 
 /// One byte short of its entries, or far shorter.
 fn table_short(random: &mut Random, plan: &mut Plan) {
-    let size = 2 + 2 * plan.record.get32(BLOCK_COUNT) as usize;
+    let size = 2 + 2 * plan.record.get32(plan.places().block_count) as usize;
     let fewer = random.pick(&[size.saturating_sub(1), size.saturating_sub(1), 2, 1, 0]);
     any(random, &mut plan.tables).bytes.truncate(fewer);
 }
@@ -168,7 +189,7 @@ fn put_table(random: &mut Random, plan: &mut Plan, reference: u16) -> usize {
 /// Another reference in the place of the one that leads to the table with an index.
 fn lead_to(plan: &mut Plan, index: usize, reference: u16) {
     match index {
-        0 => plan.record.put(TABLE, &reference.to_be_bytes()),
+        0 => plan.record.put(plan.places().table, &reference.to_be_bytes()),
         _ => plan.tables[index - 1].put(0, &reference.to_be_bytes()),
     }
 }
@@ -186,13 +207,20 @@ fn block_short(random: &mut Random, plan: &mut Plan) {
     bytes.truncate(bytes.len().saturating_sub(1));
 }
 
+/// The first block has no bytes, or fewer, or more.
+fn first_block_size(random: &mut Random, plan: &mut Plan) {
+    let bytes = &mut plan.blocks[0].bytes;
+    let size = random.pick(&[0, 0, bytes.len() / 2, bytes.len() + 1, bytes.len() + 7]);
+    bytes.resize(size, 0x77);
+}
+
 /// An entry names a block that another entry names too, which is allowed.
 fn block_again(random: &mut Random, plan: &mut Plan) {
     let block = any(random, &mut plan.blocks).reference;
     put_entry(random, plan, block);
 }
 
-/// An entry is 0; at times there is a block with that reference.
+/// An entry is 0, of a sparse element a hole; at times there is a block with that reference.
 fn block_zero(random: &mut Random, plan: &mut Plan) {
     put_entry(random, plan, 0);
     if random.once_in(2) {
@@ -216,6 +244,12 @@ fn put_entry(random: &mut Random, plan: &mut Plan, reference: u16) {
     let table = any(random, &mut plan.tables);
     let entries = (table.bytes.len() / 2).max(2) - 1;
     table.put(2 + 2 * random.below(entries), &reference.to_be_bytes());
+}
+
+impl Plan {
+    fn put_length(&mut self, length: u32) {
+        self.record.put32(self.places().length, length);
+    }
 }
 
 fn any<'a>(random: &mut Random, parts: &'a mut [Part]) -> &'a mut Part {

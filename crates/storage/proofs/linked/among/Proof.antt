@@ -22,8 +22,8 @@ loop-holds c = refl
 returns : tie.Need-returns Inv-loop μ-loop
 returns c = sym (sym (c .before .before .loop .inv) ∙ Links.along-hit _ _ _ _ (c .before .loop-test .taken) (eq-eqb _ _ (c .if1 .taken)))
 
-next-table-requires : tie.Need-next-table-requires Inv-loop μ-loop
-next-table-requires c κs = search needs
+reference-in-requires : tie.Need-reference-in-requires Inv-loop μ-loop
+reference-in-requires c κs = search needs
 
 sub-left : tie.Need-sub-left Inv-loop μ-loop
 sub-left c = omega arith
@@ -32,11 +32,11 @@ loop-less : tie.Need-loop-less Inv-loop μ-loop
 loop-less c = omega arith
 
 loop-again : tie.Need-loop-again Inv-loop μ-loop
-loop-again c = rw (c .next-table .ensures) (sym (Links.along-next _ _ _ _ (c .before .before .loop-test .taken) (ne-eqb _ _ (c .before .if1 .left))) ∙ c .before .before .before .loop .inv)
+loop-again c = rw (c .reference-in .ensures) (sym (Links.along-next _ _ _ _ (c .before .before .loop-test .taken) (ne-eqb _ _ (c .before .if1 .left))) ∙ c .before .before .before .loop .inv)
 
 returns-2 : tie.Need-returns-2 Inv-loop μ-loop
 returns-2 c = sym (sym (c .before .loop .inv) ∙ Links.along-end _ _ _ _ (c .loop-test .left))
 
 pub among-spec : {M : Type 1} → statement M
 among-spec =
-    tie.close (tie.spec Inv-loop μ-loop loop-holds returns next-table-requires sub-left loop-less loop-again returns-2)
+    tie.close (tie.spec Inv-loop μ-loop loop-holds returns reference-in-requires sub-left loop-less loop-again returns-2)

@@ -1,12 +1,12 @@
 -- `storage::linked::take_blocks` meets its contract. The invariant: what is left of the walk over the table is what the walk comes to.
 -- Assumes nothing.
 use Prim.Native.Nat.{_+_, _-_}
-use native.Mathlib.Nat.{suc-ne-zero}
 use native.Mathlib.Omega.{arith}
-use mathlib.Core.Path.{sym, _∙_}
-use Rattle.storage.specs.Tables.{blockRef, linkedBlockFault}
+use mathlib.Core.Path.{sym, ap, _∙_}
+use lib.ListN.{length}
+use Rattle.storage.specs.Tables.{blockRef}
 use Rattle.storage.specs.Walks.{share}
-use Rattle.storage.specs.Steps.{LookedUp}
+use Rattle.storage.specs.Steps.{Gave}
 use Rattle.storage.proofs.Walks
 use Rattle.storage.proofs.Steps
 use borrow.Author.Needs.{needs}
@@ -20,11 +20,9 @@ abbrev μ-loop : tie.MeasureT-loop
 μ-loop image blocks d table first missing out₀ left₀ entry₀ out left entry = d .entries - entry
 
 -- the block that the entry names
-reached : (c : tie.After-reach Inv-loop μ-loop) → let l = c .before .before .before .before .before .before .loop in let a = c .before .before .before .before .before .before .before .before .before .before .args in
-    let n = share (a .d) (a .first + l .entry) (l .left) in let ref = blockRef (a .table .now) (l .entry) in
-    LookedUp (a .image .now) ref (linkedBlockFault (a .image .now) ref n) n (c .reach .result)
-unfolding linkedBlockFault
-reached c = rw (c .before .read16 .ensures .is, c .before .before .share-of .ensures) at (c .reach .ensures)
+gave : (c : tie.After-take-block Inv-loop μ-loop) → let l = c .before .before .before .before .before .before .before .before .loop in let a = c .before .before .before .before .before .before .before .before .before .before .before .before .args in
+    Gave (a .image .now) (a .d .sparse) (blockRef (a .table .now) (l .entry)) (share (a .d) (a .first + l .entry) (l .left)) (a .d .length - l .left) (l .out) (c .take-block .last .1 .1 .1 .1 .1 .0) (c .take-block .result)
+gave c = rw (c .before .before .before .read16 .ensures .is, c .before .before .before .before .share-of .ensures) at (c .take-block .ensures)
 
 loop-holds : tie.Need-loop-holds Inv-loop μ-loop
 loop-holds c = Steps.taking-start _ _ _ _ _ _ (c .before .before .before .pre .2 .less)
@@ -56,42 +54,38 @@ read16-requires c κs = search needs
 cast-reference : tie.Need-cast-reference Inv-loop μ-loop
 cast-reference c = search needs
 
-reach-requires : tie.Need-reach-requires Inv-loop μ-loop
-reach-requires c κs = (c .before .before .before .before .before .before .before .before .before .pre .0, suc-ne-zero 24, suc-ne-zero 25)
+sub-take-block : tie.Need-sub-take-block Inv-loop μ-loop
+sub-take-block c = omega (arith, c .before .before .before .before .before .before .before .loop .inv .less)
+
+take-block-requires : tie.Need-take-block-requires Inv-loop μ-loop
+take-block-requires c κs = c .before .before .before .before .before .before .before .before .before .before .before .pre .0
 
 stopped-requires-2 : tie.Need-stopped-requires-2 Inv-loop μ-loop
 stopped-requires-2 c κs = search needs
 
 same-length-2 : tie.Need-same-length-2 Inv-loop μ-loop
-same-length-2 c = c .before .before .before .before .before .before .before .before .before .loop .inv .long
+same-length-2 c = ap length (gave (c .before .before .before .before) .leaves (c .before .if3 .taken)) ∙ c .before .before .before .before .before .before .before .before .before .before .before .before .loop .inv .long
 
 returns-2 : tie.Need-returns-2 Inv-loop μ-loop
-returns-2 c = rw (c .stopped2 .ensures) (Steps.taken-fault _ _ _ _ _ _ _ _ _ (c .before .before .before .before .before .before .before .before .before .loop .inv) (c .before .before .before .before .before .before .before .if1 .taken) (c .before .before .before .before .before .before .if2 .left) _ (reached (c .before .before .before) .fault-is) (c .before .if3 .taken))
-
-sub-write-bytes : tie.Need-sub-write-bytes Inv-loop μ-loop
-sub-write-bytes c = omega (arith, c .before .before .before .before .before .before .before .before .before .before .loop .inv .less)
-
-part-requires : tie.Need-part-requires Inv-loop μ-loop
-part-requires c κs = search needs
-
-write-bytes-requires : tie.Need-write-bytes-requires Inv-loop μ-loop
-write-bytes-requires c κs = search needs
+returns-2 c =
+    let g = gave (c .before .before .before .before) in
+    rw (c .stopped2 .ensures, g .leaves (c .before .if3 .taken))
+    (Steps.taken-fault _ _ _ _ _ _ _ _ _ (c .before .before .before .before .before .before .before .before .before .before .before .before .loop .inv) (c .before .before .before .before .before .before .before .before .before .before .if1 .taken) (c .before .before .before .before .before .before .before .before .before .if2 .left) _ (g .fault-is) (c .before .if3 .taken))
 
 sub-left : tie.Need-sub-left Inv-loop μ-loop
-sub-left c = rw (c .before .before .before .before .before .before .before .before .before .before .share-of .ensures) (Walks.share-less _ _ _)
+sub-left c = rw (c .before .before .before .before .before .before .before .share-of .ensures) (Walks.share-less _ _ _)
 
 add-entry : tie.Need-add-entry Inv-loop μ-loop
-add-entry c = omega (arith, c .before .before .before .before .before .before .before .before .before .before .before .before .if1 .taken, c .before .before .before .before .before .before .before .before .before .before .before .before .before .before .before .before .before .before .pre .1 .entries)
+add-entry c = omega (arith, c .before .before .before .before .before .before .before .before .before .if1 .taken, c .before .before .before .before .before .before .before .before .before .before .before .before .before .before .before .pre .1 .entries)
 
 loop-less : tie.Need-loop-less Inv-loop μ-loop
-loop-less c = omega (arith, c .before .before .before .before .before .before .before .before .before .before .before .before .if1 .taken)
+loop-less c = omega (arith, c .before .before .before .before .before .before .before .before .before .if1 .taken)
 
 loop-again : tie.Need-loop-again Inv-loop μ-loop
 loop-again c =
-    let block = reached (c .before .before .before .before .before .before .before .before) in
-    let sound = c .before .before .before .before .before .before .if3 .left in
-    rw (c .before .before .write-bytes .ensures, c .before .before .before .part .ensures, c .before .before .before .before .before .before .before .before .before .before .share-of .ensures)
-    (Steps.taking-next _ _ _ _ _ _ _ _ _ (c .before .before .before .before .before .before .before .before .before .before .before .before .before .before .loop .inv) (c .before .before .before .before .before .before .before .before .before .before .before .before .if1 .taken) (c .before .before .before .before .before .before .before .before .before .before .before .if2 .left) (sym (block .fault-is) ∙ sound) _ _ (block .there sound) (block .enough sound))
+    let g = gave (c .before .before .before) in
+    rw (g .gives (c .if3 .left), c .before .before .before .before .before .before .before .share-of .ensures)
+    (Steps.taking-next _ _ _ _ _ _ _ _ _ (c .before .before .before .before .before .before .before .before .before .before .before .loop .inv) (c .before .before .before .before .before .before .before .before .before .if1 .taken) (c .before .before .before .before .before .before .before .before .if2 .left) (sym (g .fault-is) ∙ c .if3 .left))
 
 stopped-requires-3 : tie.Need-stopped-requires-3 Inv-loop μ-loop
 stopped-requires-3 c κs = search needs
@@ -118,13 +112,11 @@ take-blocks-spec =
     add-read16
     read16-requires
     cast-reference
-    reach-requires
+    sub-take-block
+    take-block-requires
     stopped-requires-2
     same-length-2
     returns-2
-    sub-write-bytes
-    part-requires
-    write-bytes-requires
     sub-left
     add-entry
     loop-less

@@ -1,0 +1,29 @@
+-- `storage::linked::first_length` meets its contract. Assumes nothing.
+use native.Mathlib.Nat.{suc-ne-zero}
+use mathlib.Core.Path.{sym, _∙_}
+use Rattle.storage.proofs.Tables
+use Rattle.storage.proofs.Descriptions
+use borrow.Author.Needs.{needs}
+use Rattle.storage.proofs.linked.first_length.Statement.{statement}
+use Rattle.storage.proofs.linked.first_length.Tie as tie
+
+reference-in-requires : tie.Need-reference-in-requires
+reference-in-requires c κs = c .before .pre
+
+returns : tie.Need-returns
+returns c = sym (Descriptions.first-unwritten _ _ _ (sym (c .before .reference-in .ensures) ∙ c .if1 .taken))
+
+reach-requires : tie.Need-reach-requires
+reach-requires c κs = (c .before .before .before .pre, suc-ne-zero 24, suc-ne-zero 25)
+
+returns-2 : tie.Need-returns-2
+returns-2 c = Tables.looked-length _ _ _ _ _ (c .reach .ensures) ∙ sym (Descriptions.first-own _ _ _ _ (c .before .before .reference-in .ensures) (c .before .if1 .left))
+
+pub first-length-spec : {M : Type 1} → statement M
+first-length-spec =
+    tie.close
+    (tie.spec
+    reference-in-requires
+    returns
+    reach-requires
+    returns-2)
