@@ -22,10 +22,10 @@ extern "C" {
 #endif
 
 /* The version of the library that this header is of. */
-#define HDF4_VERSION "0.2.1"
+#define HDF4_VERSION "0.2.2"
 #define HDF4_VERSION_MAJOR 0
 #define HDF4_VERSION_MINOR 2
-#define HDF4_VERSION_PATCH 1
+#define HDF4_VERSION_PATCH 2
 
 /* The most bytes that an image has. */
 #define HDF4_MOST_BYTES 2147483647
@@ -66,11 +66,12 @@ enum hdf4_refusal {
     HDF4_NO_EDIT = 20,     /* the image carries no trailer, so there is nothing to undo */
     HDF4_BAD_TRAILER = 21, /* the trailer breaks a rule; the place is the trailer's */
     HDF4_DEEP = 22,        /* groups are nested past 16; the place is the slot of the 16th */
-    HDF4_NO_TABLE = 23,    /* a table of the element's linked blocks is absent or extended, or its reference is 0; the index is the table's */
+    HDF4_NO_TABLE = 23,    /* a table of the element's linked blocks is absent, not stored or extended, or its reference is 0; the index is the table's */
     HDF4_SHORT_TABLE = 24, /* a table of the element's linked blocks has too few bytes for its entries; the index is the table's */
-    HDF4_NO_BLOCK = 25,    /* a linked block is absent or extended, or its reference is 0 by a record of 22 bytes; the index is the block's, through the whole element */
+    HDF4_NO_BLOCK = 25,    /* a linked block is absent, not stored or extended, or its reference is 0 by a record of 22 bytes; the index is the block's, through the whole element */
     HDF4_SHORT_BLOCK = 26, /* a linked block has fewer bytes than are taken from it; the index is the block's, through the whole element */
-    HDF4_TABLE_LOOP = 27   /* a table of the element's linked blocks is one already walked, or a 257th; the index is the table's */
+    HDF4_TABLE_LOOP = 27,  /* a table of the element's linked blocks is one already walked, or a 257th; the index is the table's */
+    HDF4_NOT_STORED = 29   /* the element is named and not stored yet: offset and length of its slot are 4294967295 */
 };
 
 /* The kinds of values. */
@@ -113,6 +114,7 @@ static inline const char *hdf4_refusal_name(uint64_t number)
     case HDF4_NO_BLOCK: return "NO_BLOCK";
     case HDF4_SHORT_BLOCK: return "SHORT_BLOCK";
     case HDF4_TABLE_LOOP: return "TABLE_LOOP";
+    case HDF4_NOT_STORED: return "NOT_STORED";
     default: return "UNKNOWN";
     }
 }
@@ -149,6 +151,7 @@ static inline const char *hdf4_refusal_text(uint64_t number)
     case HDF4_NO_BLOCK: return "a linked block of the element is not there";
     case HDF4_SHORT_BLOCK: return "a linked block of the element is too short";
     case HDF4_TABLE_LOOP: return "the tables of the element's linked blocks repeat or run past 256";
+    case HDF4_NOT_STORED: return "the element is named in the directory and not stored yet";
     default: return "a rule that this version does not know";
     }
 }
@@ -317,8 +320,9 @@ hdf4_open_answer hdf4_open(const uint8_t *image, size_t n);
 /* Finds the live slot that has the base tag of a tag and a reference. */
 hdf4_find_answer hdf4_find(const uint8_t *image, size_t n, uint16_t tag, uint16_t ref);
 
-/* Lists the live slots in chain order to the front of a lent table: tag, reference, offset and length of each, as they are stored. A
- * table of 4 times HDF4_MOST_ELEMENTS entries is always enough. */
+/* Lists the live slots in chain order to the front of a lent table: tag, reference, offset and length of each, as they stand in its
+ * slot. Offset and length of an element that is named and not stored yet are 4294967295; every call that reads it answers
+ * HDF4_NOT_STORED. A table of 4 times HDF4_MOST_ELEMENTS entries is always enough. */
 hdf4_list_answer hdf4_list(const uint8_t *image, size_t n, uint32_t *table, size_t room);
 
 /* Finds an element's own part of the image. The element is plain: an extended one is refused at its slot. */
@@ -413,8 +417,8 @@ hdf4_pack_answer hdf4_pack_vdata(uint16_t interlace, uint32_t records, uint16_t 
 hdf4_value_answer hdf4_read_value(const uint8_t *image, size_t n, uint16_t ref, uint64_t record, uint64_t field, uint64_t component);
 
 /* Lists the members of a Vgroup in order, each member of tag 1965 followed by its own members: tag and reference of each. There are at
- * most HDF4_MOST_PAIRS pairs, and at most 16 groups nested, the named one included. It keeps 576 bytes of stack, or 264 and 352 for each
- * group nested where that is more: 5,896 at the most. */
+ * most HDF4_MOST_PAIRS pairs, and at most 16 groups nested, the named one included. It keeps 576 bytes of stack, or 264 and 336 for each
+ * group nested where that is more: 5,632 at the most. */
 hdf4_group_list_answer hdf4_list_group(const uint8_t *image, size_t n, uint16_t ref, uint16_t *list, size_t room);
 
 /* Reads the head of a Vdata as hdf4_read_vdata does, to one table with an entry a field. It is refused with HDF4_SMALL where there are

@@ -45,11 +45,7 @@ pub fn find(file: &Input, kinds: &[&'static Kind], reference: u16) -> Result<Dat
     }
     match found[..] {
         [dataset] => Ok(dataset),
-        [] => {
-            let names: Vec<&str> = kinds.iter().map(|kind| kind.name).collect();
-            let why = format!("reference {reference} gives no {} with its dimensions", names.join(" and no "));
-            Err(file.refused(refusal(Rule::Absent, why, 0)))
-        }
+        [] => Err(file.refused(refusal(Rule::Absent, directory.why_none(kinds, reference), 0))),
         _ => {
             let why = "is both an array and an image; give --array or --image";
             Err(Fault::Use(format!("{}: reference {reference} {why}", file.name)))
@@ -96,9 +92,22 @@ impl Directory<'_> {
         })
     }
 
-    /// The groups of a kind, those of the newer tag first. One in extended storage is not looked into.
+    /// Why a reference gives nothing. Its group may have dimensions alone: so libhdf4 leaves an array that was never written.
+    fn why_none(&self, kinds: &[&'static Kind], reference: u16) -> String {
+        let without_data = |kind: &&'static Kind| {
+            let mut groups = self.groups(kind).filter(|group| group.reference == reference);
+            let group = groups.find(|group| self.dimensions_in(kind, group).is_some())?;
+            Some(format!("the {} of group {}/{reference} has dimensions, and no data are stored", kind.name, group.tag))
+        };
+        kinds.iter().find_map(without_data).unwrap_or_else(|| {
+            let names: Vec<&str> = kinds.iter().map(|kind| kind.name).collect();
+            format!("reference {reference} gives no {} with its dimensions", names.join(" and no "))
+        })
+    }
+
+    /// The groups of a kind, those of the newer tag first. One in extended storage, or not stored, is not looked into.
     fn groups(&self, kind: &'static Kind) -> impl Iterator<Item = &Element> {
-        kind.groups.iter().flat_map(|tag| self.elements.iter().filter(move |element| element.tag == *tag))
+        kind.groups.iter().flat_map(|tag| self.elements.iter().filter(move |element| element.tag == *tag && element.is_stored()))
     }
 
     /// The first dimensions that a group names and the file has.

@@ -3,11 +3,12 @@
 use crate::fault::Fault;
 use crate::print::Print;
 use crate::text::shown;
-use crate::words::{pair, Words};
+use crate::words::{pair, Pair, Words};
 use crate::{input, miscounted, store};
-use hdf4::MOST_BYTES;
+use hdf4::{Error, Rule, MOST_BYTES};
 use std::borrow::Cow;
 use std::ffi::OsStr;
+use std::fmt::Display;
 use std::path::Path;
 
 /// Adds an element with the bytes of a data file.
@@ -19,7 +20,16 @@ pub fn add(words: &Words, print: &mut Print) -> Result<(), Fault> {
         return Err(Fault::Use(format!("reference 0: {why}")));
     }
     let data = input::read(data)?.bytes;
-    edit(path, data.len() + hdf4::EDIT_ROOM, print, |buffer, length| hdf4::add(buffer, length, tag, reference, &data))
+    edit(path, data.len() + hdf4::EDIT_ROOM, print, |buffer, length| {
+        hdf4::add(buffer, length, tag, reference, &data).map_err(|e| not_added(e, &buffer[..length], (tag, reference)))
+    })
+}
+
+/// Why an element is not added. Where one is there that is not stored yet, it is said how to store it.
+fn not_added(e: Error, image: &[u8], (tag, reference): Pair) -> String {
+    let is_unstored = || matches!(hdf4::view(image, tag, reference), Err(Error { rule: Rule::NotStored, .. }));
+    let way = if e.rule == Rule::Present && is_unstored() { "; it is not stored yet, and hdf4 replace stores it" } else { "" };
+    format!("{e}{way}")
 }
 
 /// Gives an element the bytes of a data file.
@@ -42,9 +52,9 @@ pub fn undo(words: &Words, print: &mut Print) -> Result<(), Fault> {
 }
 
 /// Edits a file in a buffer with room to grow and writes it back. Says how long it is then.
-fn edit<F>(path: &OsStr, room: usize, print: &mut Print, call: F) -> Result<(), Fault>
+fn edit<F, E: Display>(path: &OsStr, room: usize, print: &mut Print, call: F) -> Result<(), Fault>
 where
-    F: Fn(&mut [u8], usize) -> Result<usize, hdf4::Error>,
+    F: Fn(&mut [u8], usize) -> Result<usize, E>,
 {
     if path == "-" {
         return Err(Fault::Use("-: an edit needs a file".to_string()));

@@ -11,6 +11,7 @@ use crate::text::refusal;
 use crate::words::{number, Pair, Words};
 use crate::{miscounted, pgm};
 use hdf4::{base_tag, Error, Rule, Value};
+use std::borrow::Cow;
 
 const NUMBER_TYPE: u16 = 106;
 
@@ -79,10 +80,10 @@ impl<'a> Grid<'a> {
     fn read(file: &'a Input, dataset: &Dataset, most: Option<usize>) -> Result<Grid<'a>, Fault> {
         let shape = shape(file, dataset)?;
         let layout = layout(file, shape.number_type, (dataset.kind.dimensions, dataset.dimensions))?;
-        let bytes = element(file, dataset.data, most)?;
         let sizes = shape.rows.iter().map(|size| u64::from(*size));
         let factors = [shape.columns.into(), shape.components.into(), layout.size as u64];
         let needed = product(sizes.clone().chain(factors));
+        let bytes = data(file, dataset, needed, most)?;
         let Some(needed) = needed.filter(|needed| *needed <= bytes.len() as u64) else {
             return Err(short(file, dataset, bytes.len(), needed));
         };
@@ -182,6 +183,19 @@ fn layout(file: &Input, (tag, reference): Pair, dimensions: Pair) -> Result<Layo
         let why = format_args!("a number type is not known: code {number_type}, {width} bits, class {class}");
         file.refused(refusal(Rule::Type, why, place(file, (NUMBER_TYPE, reference))))
     })
+}
+
+/// The bytes of the data, at most so many. Where none are needed they may be not stored.
+fn data<'a>(file: &'a Input, dataset: &Dataset, needed: Option<u64>, most: Option<usize>) -> Result<Cow<'a, [u8]>, Fault> {
+    let (tag, reference) = dataset.data;
+    match hdf4::view(&file.bytes, tag, reference) {
+        Err(Error { rule: Rule::NotStored, .. }) if needed == Some(0) => Ok(Cow::Borrowed(&[])),
+        Err(Error { rule: Rule::NotStored, place }) => {
+            let why = format_args!("the numbers of the {} {tag}/{reference} are not stored yet", dataset.kind.name);
+            Err(file.refused(refusal(Rule::NotStored, why, place)))
+        }
+        _ => element(file, dataset.data, most),
+    }
 }
 
 /// Data with fewer bytes than their dimensions ask for, which may be more than can be counted.

@@ -44,6 +44,7 @@ fn unfit(file: &Input, reference: u16, needed: u64) -> Option<String> {
     }
     match hdf4::view(&file.bytes, LINKED_TAG, reference) {
         Err(Error { rule: Rule::Absent, .. }) => Some("is not in the file".to_string()),
+        Err(Error { rule: Rule::NotStored, .. }) => Some("is not stored yet".to_string()),
         Err(Error { rule: Rule::Storage, .. }) => Some("is in extended storage, where plain storage is needed".to_string()),
         Ok(part) if (part.len() as u64) < needed => {
             Some(format!("is too short: it has {} of the {needed} bytes that are needed", part.len()))

@@ -23,8 +23,9 @@ pub fn list(words: &Words, print: &mut Print) -> Result<(), Fault> {
 fn line(element: &Element, print: &mut Print) -> Result<(), Fault> {
     let Element { reference, offset, length, .. } = element;
     let tag = tags::named(base_tag(element.tag));
+    let stored = if element.is_stored() { format!("offset {offset} length {length}") } else { "not stored".to_string() };
     let extended = if is_extended(element) { " extended" } else { "" };
-    print.text(format_args!("tag {tag} ref {reference} offset {offset} length {length}{extended}\n"))
+    print.text(format_args!("tag {tag} ref {reference} {stored}{extended}\n"))
 }
 
 fn is_extended(element: &Element) -> bool {
@@ -44,7 +45,7 @@ fn json(counts: &Counts, elements: &[Element], mut json: Json) -> Result<(), Fau
     json.end()
 }
 
-/// An element; name and about are null where its tag is not known.
+/// An element. Name and about are null where its tag is not known, offset and length where it is not stored.
 fn object(element: &Element, json: &mut Json) -> Result<(), Fault> {
     let tag = base_tag(element.tag);
     json.open('{')?;
@@ -57,8 +58,11 @@ fn object(element: &Element, json: &mut Json) -> Result<(), Fault> {
         json.entry("about", "null")?;
     }
     json.entry("ref", element.reference)?;
-    json.entry("offset", element.offset)?;
-    json.entry("length", element.length)?;
+    let is_stored = element.is_stored();
+    let number = |number: u32| if is_stored { number.to_string() } else { "null".to_string() };
+    json.entry("stored", is_stored)?;
+    json.entry("offset", number(element.offset))?;
+    json.entry("length", number(element.length))?;
     json.entry("extended", is_extended(element))?;
     json.close('}')
 }

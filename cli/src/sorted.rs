@@ -43,10 +43,10 @@ impl Sorted<'_> {
 }
 
 /// One block of slots, and behind it the elements' bytes: one after the other, or the whole file where that is shorter, since
-/// elements may share bytes.
+/// elements may share bytes. Those that are not stored are not here either.
 fn image_of(file: &Input, elements: &[Element]) -> Result<Vec<u8>, Fault> {
     let directory = FIRST_SLOT + SLOT_BYTES * elements.len();
-    let total: u64 = elements.iter().map(|element| u64::from(element.length)).sum();
+    let total: u64 = elements.iter().map(|element| bytes_of(file, element).len() as u64).sum();
     let whole = total > file.bytes.len() as u64;
     let mut image = Vec::new();
     input::reserve(&file.name, &mut image, directory + file.bytes.len().min(total as usize))?;
@@ -55,12 +55,18 @@ fn image_of(file: &Input, elements: &[Element]) -> Result<Vec<u8>, Fault> {
     image.extend([0; 4]);
     let mut next = directory;
     for element in elements {
-        let offset = if whole { directory + element.offset as usize } else { next };
+        let offset = if !element.is_stored() {
+            element.offset as usize
+        } else if whole {
+            directory + element.offset as usize
+        } else {
+            next
+        };
         image.extend(element.tag.to_be_bytes());
         image.extend(element.reference.to_be_bytes());
         image.extend((offset as u32).to_be_bytes());
         image.extend(element.length.to_be_bytes());
-        next += element.length as usize;
+        next += bytes_of(file, element).len();
     }
     if whole {
         image.extend(&file.bytes);
@@ -70,7 +76,8 @@ fn image_of(file: &Input, elements: &[Element]) -> Result<Vec<u8>, Fault> {
     Ok(image)
 }
 
+/// The bytes of an element, none of one that is not stored.
 fn bytes_of<'a>(file: &'a Input, element: &Element) -> &'a [u8] {
-    let start = element.offset as usize;
-    file.bytes.get(start..start + element.length as usize).unwrap_or(&[])
+    let behind = file.bytes.get(element.offset as usize..).unwrap_or(&[]);
+    behind.get(..element.length as usize).unwrap_or(&[])
 }

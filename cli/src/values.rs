@@ -114,10 +114,17 @@ impl<'a> Table<'a> {
 
     /// Values that are refused. Where they are in linked blocks, it is said how to get at their bytes.
     fn refused(&self, e: Error) -> Fault {
-        let Table { file, reference, .. } = self;
-        let is_linked = e.rule == Rule::Storage && hdf4::size(&file.bytes, VALUES, *reference).is_ok();
-        let way = format!("; the values are in linked blocks, and hdf4 read FILE {VALUES} {reference} gives their bytes");
-        file.refused(format_args!("Vdata {reference}: {e}{}", if is_linked { &way } else { "" }))
+        let Table { file, reference, vdata, .. } = self;
+        let why = match e.rule {
+            Rule::NotStored => {
+                refusal(e.rule, format_args!("the values of its {} records are not stored yet", vdata.records), e.place)
+            }
+            Rule::Storage if hdf4::size(&file.bytes, VALUES, *reference).is_ok() => {
+                format!("{e}; the values are in linked blocks, and hdf4 read FILE {VALUES} {reference} gives their bytes")
+            }
+            _ => e.to_string(),
+        };
+        file.refused(format_args!("Vdata {reference}: {why}"))
     }
 
     /// The values of one field in one record.

@@ -112,8 +112,36 @@ fn refusals_name_their_rule_and_leave_the_file() {
     fs::write(&file, &bytes).unwrap();
     refused_on(&file, &["undo", file_word], &format!("(number 21, place {trailer})"));
 
-    let other = folder.copy_of("set_aside.hdf");
-    refused_on(&other, &["add", text(&other), "40000", "5", data_word], "OUTSIDE");
+    let other = folder.copy_of("two_machine_types.hdf");
+    refused_on(&other, &["add", text(&other), "40000", "5", data_word], "TWICE");
+}
+
+#[test]
+fn an_element_that_is_not_stored_is_replaced_or_removed_and_not_added() {
+    let folder = Folder::new("unstored");
+    let (file, data) = (folder.copy_of("set_aside.hdf"), folder.holding("data", b"closed"));
+    let (file_word, data_word) = (text(&file), text(&data));
+    let before = fs::read(&file).unwrap();
+    let listed = granted(&["list", file_word]);
+    assert!(listed.ends_with("\ntag 900 ref 2 not stored\n"), "{listed}");
+
+    let there = "PRESENT: there is already an element with that tag and reference (number 18, place 0)";
+    let way = format!("{there}; it is not stored yet, and hdf4 replace stores it\n");
+    refused_on(&file, &["add", file_word, "900", "2", data_word], &way);
+    refused_on(&file, &["add", file_word, "900", "1", data_word], &format!("{there}\n"));
+    refused_on(&file, &["add", file_word, "17284", "2", data_word], "BAD_TAG: a tag is not allowed (number 7, place 0)\n");
+
+    granted(&["replace", file_word, "900", "2", data_word]);
+    assert_eq!(granted(&["read", file_word, "900", "2"]), "closed");
+    assert!(granted(&["list", file_word]).ends_with(&format!("\ntag 900 ref 2 offset {} length 6\n", before.len())));
+    granted(&["undo", file_word]);
+    assert_eq!(fs::read(&file).unwrap(), before);
+
+    granted(&["remove", file_word, "900", "2"]);
+    assert!(!granted(&["list", file_word]).contains("tag 900 ref 2"));
+    refused_on(&file, &["read", file_word, "900", "2"], "ABSENT");
+    granted(&["undo", file_word]);
+    assert_eq!(fs::read(&file).unwrap(), before);
 }
 
 #[test]

@@ -2,7 +2,7 @@
 
 mod common;
 
-use common::files::{file_of, linked_record, sample, sample_byte, shorts, slot};
+use common::files::{file_of, linked_record, sample, sample_byte, shorts, slot, unstored};
 use common::terminal::on_a_terminal;
 use common::{file, granted, granted_bytes, misused, program, refused, text, Folder};
 use std::fs::{self, File};
@@ -61,11 +61,11 @@ fn check_samples(name: &str, data: u16, [code, size, count]: [usize; 3]) {
 fn arrays_of_each_type_are_printed() {
     let types = [[4, 1], [3, 1], [20, 1], [21, 1], [22, 2], [23, 2], [24, 4], [25, 4], [5, 4], [6, 8]];
     for (index, [code, size]) in types.into_iter().enumerate() {
-        check_samples("cleared_types.hdf", 3 + 2 * index as u16, [code, size, 6]);
+        check_samples("sds_types.hdf", 3 + 2 * index as u16, [code, size, 6]);
     }
     let types = [[22, 2], [23, 2], [24, 4], [5, 4], [6, 8]];
     for (index, [code, size]) in types.into_iter().enumerate() {
-        check_samples("cleared_little_endian.hdf", 3 + 2 * index as u16, [code, size, 5]);
+        check_samples("sds_little_endian.hdf", 3 + 2 * index as u16, [code, size, 5]);
     }
 }
 
@@ -77,7 +77,7 @@ fn rows(count: i32, columns: usize, mark: &str) -> Vec<String> {
 
 #[test]
 fn rows_are_lines_and_planes_stand_apart() {
-    let path = file("cleared_ranks.hdf");
+    let path = file("sds_ranks.hdf");
     for (reference, count, columns, rows_of_a_plane) in [("3", 3, 3, 1), ("5", 12, 4, 3), ("7", 24, 2, 4), ("9", 48, 2, 2)] {
         let planes: Vec<String> = rows(count, columns, " ").chunks(rows_of_a_plane).map(|plane| plane.concat()).collect();
         assert_eq!(granted(&["grid", &path, reference]), planes.join("\n"), "{reference}");
@@ -92,12 +92,12 @@ fn rows_are_lines_and_planes_stand_apart() {
 
 #[test]
 fn arrays_and_images_of_one_file_are_told_apart() {
-    let path = file("cleared_mixed.hdf");
+    let path = file("mixed.hdf");
     let line = |row: usize| joined((0..9).map(|column| sample_byte(9 * row + column)), " ") + "\n";
     let expected: String = (0..7).map(line).collect();
     assert_eq!(granted(&["grid", &path, "2"]), expected);
     assert_eq!(granted(&["grid", "--image", &path, "2"]), expected);
-    check_samples("cleared_mixed.hdf", 4, [5, 4, 9]);
+    check_samples("mixed.hdf", 4, [5, 4, 9]);
     let message = refused(&["grid", "--array", &path, "2"]);
     assert!(message.contains("ABSENT: reference 2 gives no array with its dimensions (number 11, place 0)"), "{message}");
     let message = refused(&["grid", &path, "11"]);
@@ -228,7 +228,7 @@ fn linked_data_are_read() {
 
 #[test]
 fn arrays_that_grew_in_turn_are_read() {
-    let path = file("cleared_unlimited.hdf");
+    let path = file("sds_unlimited.hdf");
     for (array, by_group, by_data) in [(0, "2", "4"), (1, "3", "5")] {
         // Every second row was written, and libhdf4 filled in the others.
         let number = |row: usize, column: usize| if row % 2 == array { sample(row + 2 * column, 2) as i16 } else { -32767 };
@@ -272,10 +272,49 @@ fn refusals_name_their_rule() {
     let compressed = file("raster_8.hdf");
     let message = refused(&["grid", &compressed, "3"]);
     assert!(message.contains("STORAGE: the image 303/3 is compressed, by 11/3 (number 12, place 154)"), "{message}");
-    assert!(refused(&["grid", &file("cleared_deflate.hdf"), "3"]).contains("STORAGE"));
-    assert!(refused(&["grid", &file("sds_ranks.hdf"), "3"]).contains("OUTSIDE"));
+    assert!(refused(&["grid", &file("sds_deflate.hdf"), "3"]).contains("STORAGE"));
+    assert!(refused(&["grid", &file("two_machine_types.hdf"), "3"]).contains("TWICE"));
     assert!(misused(&["grid", &compressed]).contains("usage: hdf4 grid"));
     assert!(misused(&["grid", &compressed, "x"]).contains("not a number from 0 to 65535"));
+}
+
+#[test]
+fn data_that_are_not_stored_are_told() {
+    let folder = Folder::new("unstored");
+    let refused_file = |path: &str, word: &str| refused(&["grid", path, word]).replace(&format!("hdf4: {path}: "), "");
+    // An array that libhdf4 never wrote has a group and dimensions alone.
+    let never = refused_file(&file("sds_unwritten.hdf"), "2");
+    assert_eq!(never, "ABSENT: the array of group 720/2 has dimensions, and no data are stored (number 11, place 0)\n");
+    let path = folder.unstored_copy_of("sds_ranks.hdf", slot(2));
+    for reference in ["4", "5"] {
+        let told = "NOT_STORED: the numbers of the array 702/5 are not stored yet (number 29, place 34)\n";
+        assert_eq!(refused_file(text(&path), reference), told);
+    }
+    assert_eq!(granted(&["grid", text(&path), "3"]), rows(3, 3, " ").concat());
+
+    // As libhdf4 writes an image without data: the group names no 302, and its slot is set aside.
+    let (dimensions, group) = (image(3, 4, 1, 0), shorts(&[300, 1, 302, 0]));
+    let elements: [(u16, u16, &[u8]); 4] = [(106, 1, UINT8), (300, 1, &dimensions), (306, 1, &group), (302, 1, b"")];
+    let path = folder.holding("image.hdf", &unstored(file_of(&elements), slot(3)));
+    let told = format!("NOT_STORED: the numbers of the image 302/1 are not stored yet (number 29, place {})\n", slot(3));
+    assert_eq!(refused_file(text(&path), "1"), told);
+}
+
+#[test]
+fn records_that_are_not_stored_are_told() {
+    let folder = Folder::new("records");
+    let told = |index: usize| {
+        let path = folder.holding("array.hdf", &unstored(array_file(UINT8, &[2], b"\x01\x02"), slot(index)));
+        refused(&["grid", text(&path), "2"])
+    };
+    let rule = "NOT_STORED: the element is named in the directory and not stored yet";
+    assert!(told(0).ends_with(&format!(": 106/1: {rule} (number 29, place {})\n", slot(0))));
+    assert!(told(1).ends_with(&format!(": 701/2: {rule} (number 29, place {})\n", slot(1))));
+    // A group that is not stored names nothing, and dimensions with the reference of the data are taken.
+    let elements: [(u16, u16, &[u8]); 4] = [(106, 1, UINT8), (701, 2, &array(&[2])), (702, 2, b"\x01\x02"), (720, 3, b"")];
+    let path = folder.holding("group.hdf", &unstored(file_of(&elements), slot(3)));
+    assert_eq!(granted(&["grid", text(&path), "2"]), "1 2\n");
+    assert!(refused(&["grid", text(&path), "3"]).contains("ABSENT: reference 3 gives no array and no image"));
 }
 
 #[test]
@@ -285,6 +324,9 @@ fn sizes_of_nothing_make_no_lines() {
         let path = folder.holding("none.hdf", &array_file(FLOAT64, sizes, b""));
         assert_eq!(granted(&["grid", text(&path), "2"]), "", "{sizes:?}");
         assert_eq!(granted(&["grid", "--csv", text(&path), "2"]), "", "{sizes:?}");
+        // Nothing has to be stored for them.
+        let path = folder.holding("unstored.hdf", &unstored(array_file(FLOAT64, sizes, b""), slot(2)));
+        assert_eq!(granted(&["grid", text(&path), "2"]), "", "{sizes:?}");
     }
     assert!(misused(&["grid", "--pgm", &folder.word("none.hdf"), "2"]).contains("without numbers there is no picture"));
 }
@@ -292,7 +334,7 @@ fn sizes_of_nothing_make_no_lines() {
 #[test]
 fn lines_go_to_a_file() {
     let folder = Folder::new("out");
-    let (path, out) = (file("cleared_ranks.hdf"), folder.word("out.csv"));
+    let (path, out) = (file("sds_ranks.hdf"), folder.word("out.csv"));
     for _ in 0..2 {
         let expected = rows(12, 4, ",").concat();
         assert_eq!(granted(&["grid", "--csv", &path, "5", &out]), format!("{out}: {} bytes\n", expected.len()));
@@ -323,9 +365,9 @@ fn unsigned_numbers_are_greys_as_they_are() {
     let folder = Folder::new("unsigned");
     let samples: Vec<u8> = (0..80).map(sample_byte).collect();
     assert_eq!(picture(&["grid", "--pgm", &file("gr_8_bit.hdf"), "1"]), (10, 8, 255, samples.clone()));
-    assert_eq!(picture(&["grid", "--pgm", &file("cleared_mixed.hdf"), "2"]), (9, 7, 255, samples[..63].to_vec()));
+    assert_eq!(picture(&["grid", "--pgm", &file("mixed.hdf"), "2"]), (9, 7, 255, samples[..63].to_vec()));
     // Characters too.
-    assert_eq!(picture(&["grid", "--pgm", &file("cleared_types.hdf"), "3"]), (6, 1, 255, samples[..6].to_vec()));
+    assert_eq!(picture(&["grid", "--pgm", &file("sds_types.hdf"), "3"]), (6, 1, 255, samples[..6].to_vec()));
     for number_type in [UINT16, LOW_UINT16] {
         let data: &[u8] = if number_type == UINT16 { b"\x01\x02\xff\xfe" } else { b"\x02\x01\xfe\xff" };
         let path = folder.holding("greys.hdf", &array_file(number_type, &[2, 1], data));
@@ -355,7 +397,7 @@ fn other_numbers_are_scaled() {
     assert_eq!(greys(&folder, FLOAT64, &doubles(&[f64::MIN, 0.0, f64::MAX])), [0, 128, 255]);
     assert_eq!(greys(&folder, FLOAT64, &doubles(&[5e-324, 0.0])), [255, 0]);
     // From -20000 to -9000, by thousands.
-    let (width, height, most, greys) = picture(&["grid", "--pgm", &file("cleared_ranks.hdf"), "5"]);
+    let (width, height, most, greys) = picture(&["grid", "--pgm", &file("sds_ranks.hdf"), "5"]);
     assert_eq!((width, height, most), (4, 3, 255));
     assert_eq!(greys, (0..12).map(|index| (255.0 * f64::from(index) / 11.0).round() as u8).collect::<Vec<u8>>());
 }
@@ -364,7 +406,7 @@ fn other_numbers_are_scaled() {
 fn pictures_have_two_dimensions_and_go_to_no_terminal() {
     let folder = Folder::new("pictures");
     for (reference, rank) in [("7", 3), ("9", 4)] {
-        let message = misused(&["grid", "--pgm", &file("cleared_ranks.hdf"), reference]);
+        let message = misused(&["grid", "--pgm", &file("sds_ranks.hdf"), reference]);
         assert!(message.contains(&format!("an array of {rank} dimensions is no picture")), "{message}");
     }
     let (path, out) = (file("gr_8_bit.hdf"), folder.word("grey.pgm"));

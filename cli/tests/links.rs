@@ -2,8 +2,9 @@
 
 mod common;
 
-use common::files::{file_of, linked_record, shorts, sparse_record};
+use common::files::{file_of, linked_record, shorts, slot, sparse_record, unstored};
 use common::{granted_bytes, refused, text, Folder};
+use std::fs;
 
 /// Tag, reference and bytes of an element.
 type Part = (u16, u16, Vec<u8>);
@@ -42,10 +43,12 @@ fn holding(folder: &Folder, parts: &[Part]) -> String {
 
 /// Reads a grid that is broken, and holds the whole line against what should be told.
 fn compare(folder: &Folder, parts: &[Part], rule: (&str, u16), broken: &str) {
-    let path = holding(folder, parts);
-    let (name, number) = rule;
+    compare_in(&holding(folder, parts), rule, broken);
+}
+
+fn compare_in(path: &str, (name, number): (&str, u16), broken: &str) {
     let expected = format!("{name}: 702/7 is in linked blocks, and its {broken} (number {number}, place 22)");
-    assert_eq!(refused(&["read", &path, "702", "7"]), format!("hdf4: {path}: {expected}\n"));
+    assert_eq!(refused(&["read", path, "702", "7"]), format!("hdf4: {path}: {expected}\n"));
 }
 
 /// The same of grids that are each changed in one way.
@@ -92,6 +95,31 @@ fn a_missing_block_is_named() {
         (|parts| parts[TABLE_1].2 = shorts(&[0, 13, 0]), "block 3 (reference 0) is missing: reference 0 names none"),
     ];
     compare_all(("NO_BLOCK", 25), &cases);
+}
+
+#[test]
+fn a_table_or_block_that_is_not_stored_is_named() {
+    let folder = Folder::new("unstored");
+    let compare_unstored = |part, rule, broken| {
+        let path = holding(&folder, &grid());
+        fs::write(&path, unstored(fs::read(&path).unwrap(), slot(part))).unwrap();
+        compare_in(&path, rule, broken);
+    };
+    compare_unstored(TABLE_0, ("NO_TABLE", 23), "table 0 (reference 1) is not stored yet");
+    compare_unstored(TABLE_1, ("NO_TABLE", 23), "table 1 (reference 2) is not stored yet");
+    compare_unstored(BLOCK_0, ("NO_BLOCK", 25), "block 0 (reference 11) is not stored yet");
+    compare_unstored(BLOCK_3, ("NO_BLOCK", 25), "block 3 (reference 14) is not stored yet");
+}
+
+/// The grid of a real file, in linked blocks, whose second block, 20/5 in the eighth slot, is not stored.
+#[test]
+fn a_real_block_that_is_not_stored_is_named() {
+    let folder = Folder::new("real");
+    let path = folder.unstored_copy_of("sds_unlimited.hdf", slot(7));
+    let told = "NO_BLOCK: 702/4 is in linked blocks, and its block 1 (reference 5) is not stored yet (number 25, place 22)";
+    for words in [&["read", text(&path), "702", "4"][..], &["grid", text(&path), "2"]] {
+        assert_eq!(refused(words), format!("hdf4: {}: {told}\n", text(&path)));
+    }
 }
 
 #[test]

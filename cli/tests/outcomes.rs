@@ -18,11 +18,11 @@ fn words<'a>(path: &'a str, out: &[&'a str]) -> Vec<&'a str> {
 #[test]
 fn the_file_that_is_read_is_not_overwritten() {
     let folder = Folder::new("source");
-    let path = folder.copy_of("cleared_mixed.hdf");
+    let path = folder.copy_of("mixed.hdf");
     let before = fs::read(&path).unwrap();
-    symlink("cleared_mixed.hdf", folder.path("symbolic")).unwrap();
+    symlink("mixed.hdf", folder.path("symbolic")).unwrap();
     fs::hard_link(&path, folder.path("hard")).unwrap();
-    for out in ["cleared_mixed.hdf", "symbolic", "hard"] {
+    for out in ["mixed.hdf", "symbolic", "hard"] {
         let message = misused(&words(text(&path), &[&folder.word(out)]));
         assert!(message.contains("this is the file that is read"), "{message}");
         assert_eq!(fs::read(&path).unwrap(), before);
@@ -37,7 +37,7 @@ fn the_file_that_is_read_is_not_overwritten() {
 #[test]
 fn no_open_file_that_is_read_is_written_to() {
     let folder = Folder::new("open");
-    let path = folder.copy_of("cleared_mixed.hdf");
+    let path = folder.copy_of("mixed.hdf");
     let before = fs::read(&path).unwrap();
     for script in [
         r#""$0" read "$1" 302 2 /dev/fd/3 3<>"$1""#,
@@ -57,7 +57,7 @@ fn no_open_file_that_is_read_is_written_to() {
 #[test]
 fn what_the_program_was_started_with_is_written_where_it_stands() {
     let folder = Folder::new("descriptor");
-    let (path, out) = (file("cleared_mixed.hdf"), folder.path("out"));
+    let (path, out) = (file("mixed.hdf"), folder.path("out"));
     let script = r#"{ echo before >&3; "$0" read "$1" 302 2 /dev/fd/3 >&2; echo behind >&3; } 3>"$2""#;
     let words = ["-c", script, env!("CARGO_BIN_EXE_hdf4"), &path, text(&out)];
     assert!(ended_as(0, Command::new("bash").args(words)).1.contains("/dev/fd/3: 63 bytes"));
@@ -80,7 +80,7 @@ fn a_limit_on_the_length_of_files_is_told() {
 
 #[test]
 fn devices_and_standard_output_are_written_to() {
-    let path = file("cleared_mixed.hdf");
+    let path = file("mixed.hdf");
     let bytes = granted_bytes(&words(&path, &[]));
     assert_eq!(bytes.len(), 63);
     for out in ["-", "/dev/stdout", "/dev/fd/1"] {
@@ -139,7 +139,7 @@ fn a_reader_who_has_enough_is_no_fault() {
 #[test]
 fn raw_bytes_go_to_a_terminal_only_if_asked_for() {
     let folder = Folder::new("terminal");
-    let path = folder.copy_of("cleared_mixed.hdf");
+    let path = folder.copy_of("mixed.hdf");
     let path = text(&path);
     let (status, seen) = on_a_terminal(program().args(words(path, &[])));
     assert_eq!(status, 2, "{seen}");

@@ -2,7 +2,7 @@
 
 mod common;
 
-use common::files::{sample, sample_byte};
+use common::files::{sample, sample_byte, slot, unstored};
 use common::{failed, file, granted, granted_bytes, misused, refused, text, Folder};
 use std::fs;
 
@@ -126,5 +126,19 @@ fn refusals_name_their_rule() {
     assert!(refused(&["read", &path, "20", "9"]).contains("ABSENT"));
     assert!(misused(&["read", &path, "20", "x"]).contains("not a number from 0 to 65535"));
     assert!(misused(&["read", &path, "20"]).contains("usage:"));
-    assert!(refused(&["read", &file("set_aside.hdf"), "20", "1"]).contains("OUTSIDE"));
+    assert!(refused(&["read", &file("two_machine_types.hdf"), "20", "1"]).contains("TWICE"));
+}
+
+#[test]
+fn an_element_that_is_not_stored_is_not_read() {
+    let path = file("set_aside.hdf");
+    let expected = "NOT_STORED: the element is named in the directory and not stored yet (number 29, place 34)";
+    for words in [&["read", &path, "900", "2"][..], &["read", "--hex", &path, "17284", "2"]] {
+        assert_eq!(refused(words), format!("hdf4: {path}: {expected}\n"));
+    }
+    assert_eq!(granted_bytes(&["read", &path, "900", "1"]), samples(5));
+    // In linked blocks too, where it is the record that is not stored.
+    let folder = Folder::new("unstored");
+    let path = folder.holding("linked.hdf", &unstored(linked_file(), slot(0)));
+    assert!(refused(&["read", text(&path), "100", "1"]).ends_with(" and not stored yet (number 29, place 10)\n"));
 }

@@ -2,7 +2,7 @@
 
 mod common;
 
-use common::files::{file_of, sample, shorts};
+use common::files::{file_of, sample, shorts, slot};
 use common::json::Json;
 use common::{file, granted, misused, program, refused, text, Folder};
 use std::ffi::OsStr;
@@ -186,12 +186,50 @@ fn a_name_is_found_among_thousands() {
 
 #[test]
 fn standard_input_has_values() {
-    let path = file("cleared_mixed.hdf");
+    let path = file("mixed.hdf");
     for words in [&["values", "-", "roads"][..], &["values", "--json", "-", "11"]] {
         let output = program().args(words).stdin(File::open(&path).unwrap()).output().unwrap();
         let on_file: Vec<&str> = words.iter().map(|word| if *word == "-" { &path } else { *word }).collect();
         assert_eq!(String::from_utf8(output.stdout).unwrap(), granted(&on_file));
     }
+}
+
+/// libhdf4 names the values of a Vdata before it stores them, and never stores those of one without records.
+#[test]
+fn a_vdata_without_records_has_no_values() {
+    let path = file("vdata_empty.hdf");
+    for word in ["2", "none"] {
+        assert_eq!(granted(&["values", &path, word]), "value\n");
+    }
+    let json = Json::read(&granted(&["values", "--json", &path, "2"]));
+    assert_eq!((json["name"].text(), json["fields"].items().len(), json["records"].items().len()), ("none", 1, 0));
+    // The SD interface writes such a one for each array, without a name.
+    let path = file("sds_ranks.hdf");
+    for reference in ["30", "33", "36", "39"] {
+        assert_eq!(granted(&["values", &path, reference]), "SDS variable\n");
+    }
+    let message = misused(&["values", &path, ""]);
+    assert!(message.ends_with("several Vdatas are named \"\"; give a reference: 30, 33, 36, 39\n"), "{message}");
+}
+
+/// The Vdata of a real file whose values, 84 bytes in the second slot, or whose head, in the third, are not stored.
+#[test]
+fn a_vdata_with_records_that_are_not_stored_is_refused() {
+    let folder = Folder::new("unstored");
+    let path = folder.unstored_copy_of("vdata_interlaces.hdf", slot(1));
+    let path = text(&path);
+    let expected = "Vdata 2: NOT_STORED: the values of its 7 records are not stored yet (number 29, place 22)";
+    for words in [["values", path, "2"], ["values", path, "by record"]] {
+        assert_eq!(refused(&words), format!("hdf4: {path}: {expected}\n"));
+    }
+    assert_eq!(granted(&["values", path, "3"]), roads(0..7));
+
+    let path = folder.unstored_copy_of("vdata_interlaces.hdf", slot(2));
+    let path = text(&path);
+    let expected = "NOT_STORED: the element is named in the directory and not stored yet (number 29, place 34)";
+    assert_eq!(refused(&["values", path, "2"]), format!("hdf4: {path}: Vdata 2: {expected}\n"));
+    // Beside it the head of a type that is not known cannot be read.
+    assert!(refused(&["values", path, "by record"]).contains("there is no Vdata named \"by record\", but 2 cannot be read"));
 }
 
 /// A copy of a real file in which the values of a Vdata, in its second slot, are one byte short. Its path as a word.
@@ -229,7 +267,7 @@ fn refusals_name_their_rule_and_print_nothing() {
         assert!(refused(&file("vdata_appended.hdf"), "2").contains("STORAGE"));
         assert!(refused(&shortened, "2").contains("RECORD: a record breaks its layout (number 15, place 22)"));
         assert!(refused(&shortened, "by record").contains("Vdata 2: RECORD"));
-        assert!(refused(&file("set_aside.hdf"), "x").contains("OUTSIDE"));
+        assert!(refused(&file("two_machine_types.hdf"), "x").contains("TWICE"));
     }
     for words in [&["values", &path][..], &["values", &path, "2", "3"], &["values", &path, "2", "--name", "x"]] {
         assert!(misused(words).contains("usage: hdf4 values"));

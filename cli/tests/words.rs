@@ -102,7 +102,7 @@ fn standard_input_is_read_as_a_file() {
     assert_eq!(given(&["list", "-"], "elements.hdf"), granted(&["list", &file("elements.hdf")]));
     assert_eq!(given(&["groups", "-"], "vgroups.hdf"), granted(&["groups", &file("vgroups.hdf")]));
     assert_eq!(given(&["values", "-", "2"], "vdata_fields.hdf"), granted(&["values", &file("vdata_fields.hdf"), "2"]));
-    assert_eq!(given(&["read", "--hex", "-", "302", "2"], "cleared_mixed.hdf").lines().count(), 4);
+    assert_eq!(given(&["read", "--hex", "-", "302", "2"], "mixed.hdf").lines().count(), 4);
     let output = program().args(["list", "-"]).stdin(Stdio::null()).output().unwrap();
     let message = String::from_utf8(output.stderr).unwrap();
     assert_eq!(output.status.code(), Some(1));

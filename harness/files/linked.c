@@ -321,7 +321,4 @@ void linked_files(void)
     sds_unlimited();
     sds_reopened();
     sds_unfilled();
-    clear("sds_unlimited.hdf", "cleared_unlimited.hdf");
-    clear("sds_reopened.hdf", "cleared_reopened.hdf");
-    clear("sds_unfilled.hdf", "cleared_unfilled.hdf");
 }

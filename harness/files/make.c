@@ -138,12 +138,26 @@ static void two_machine_types(void)
     NEED(Hclose(file));
 }
 
-/* An element that is named, and the file closed before anything is stored in it. */
+/* Names an element in which nothing is stored. */
+static void name_only(int32 file, uint16 tag, uint16 ref)
+{
+    NEED(Hendaccess(NEED(Hstartaccess(file, tag, ref, DFACC_WRITE))));
+}
+
 static void set_aside(void)
 {
     int32 file = create("set_aside.hdf", 0);
     put(file, 900, 1, 5);
-    NEED(Hendaccess(NEED(Hstartaccess(file, 900, 2, DFACC_WRITE))));
+    name_only(file, 900, 2);
+    NEED(Hclose(file));
+}
+
+static void set_aside_records(void)
+{
+    static const uint16 tags[] = {DFTAG_NT, DFTAG_ID, DFTAG_LD, DFTAG_MD, DFTAG_SDD, DFTAG_VG, DFTAG_VH};
+    int32 file = create("set_aside_records.hdf", 0);
+    for (int i = 0; i < COUNT(tags); i++)
+        name_only(file, tags[i], 2);
     NEED(Hclose(file));
 }
 
@@ -431,6 +445,18 @@ static void vdata_empty(void)
     v_close(file);
 }
 
+/* The values of a Vdata are deleted, and their element is named again: there are seven records, and nothing is stored. */
+static void vdata_set_aside(void)
+{
+    int32 file = v_create("vdata_set_aside.hdf");
+    int32 vdata = road_vdata(file, "set aside", FULL_INTERLACE, DFNT_UINT32);
+    uint16 ref = (uint16)NEED(VSQueryref(vdata));
+    NEED(VSdetach(vdata));
+    NEED(Hdeldd(file, DFTAG_VS, ref));
+    name_only(file, DFTAG_VS, ref);
+    v_close(file);
+}
+
 static int32 group_create(int32 file, const char *name)
 {
     int32 group = NEED(Vattach(file, -1, "w"));
@@ -626,37 +652,6 @@ static void mixed(void)
     v_close(file);
 }
 
-/* ---- Cleared files ---- */
-
-static void copy_file(const char *from, const char *to)
-{
-    char part[4096];
-    size_t length;
-    FILE *source = fopen(from, "rb"), *copy = fopen(to, "wb");
-    if (source == NULL || copy == NULL)
-        exit(1);
-    while ((length = fread(part, 1, sizeof part, source)) > 0)
-        fwrite(part, 1, length, copy);
-    fclose(source);
-    fclose(copy);
-}
-
-/* The SD interface leaves slots that were never filled in every file. */
-void clear(const char *from, const char *to)
-{
-    copy_file(from, to);
-    int32 file = NEED(Hopen(to, DFACC_RDWR, 0));
-    uint16 tag = 0, ref = 0, refs[64];
-    int32 offset, length;
-    int count = 0;
-    while (Hfind(file, DFTAG_VS, DFREF_WILDCARD, &tag, &ref, &offset, &length, DF_FORWARD) != FAIL)
-        if (offset == -1 && count < COUNT(refs))
-            refs[count++] = ref;
-    for (int i = 0; i < count; i++)
-        NEED(Hdeldd(file, DFTAG_VS, refs[i]));
-    NEED(Hclose(file));
-}
-
 int main(int count, char **arguments)
 {
     if (count != 2 || chdir(arguments[1]) != 0) {
@@ -674,6 +669,7 @@ int main(int count, char **arguments)
     machine_type();
     two_machine_types();
     set_aside();
+    set_aside_records();
     external();
     compressed();
     sds_types();
@@ -694,6 +690,7 @@ int main(int count, char **arguments)
     vdata_fields();
     vdata_attributes();
     vdata_empty();
+    vdata_set_aside();
     vgroups();
     vgroups_deep();
     vgroup_attributes();
@@ -706,14 +703,6 @@ int main(int count, char **arguments)
     annotations();
     annotations_many();
     mixed();
-    clear("sds_types.hdf", "cleared_types.hdf");
-    clear("sds_little_endian.hdf", "cleared_little_endian.hdf");
-    clear("sds_ranks.hdf", "cleared_ranks.hdf");
-    clear("sds_attributes.hdf", "cleared_attributes.hdf");
-    clear("sds_deflate.hdf", "cleared_deflate.hdf");
-    clear("sds_chunked_deflate.hdf", "cleared_chunked_deflate.hdf");
-    clear("sds_external.hdf", "cleared_external.hdf");
-    clear("mixed.hdf", "cleared_mixed.hdf");
     linked_files();
     record_contents();
     return 0;

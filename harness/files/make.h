@@ -30,13 +30,10 @@ void v_close(int32 file);
 /* Makes a Vdata of seven records with the fields row, col and road. */
 int32 road_vdata(int32 file, const char *name, int32 interlace, int32 type);
 
-/* Makes a copy of a file without its slots that were set aside and never filled. */
-void clear(const char *from, const char *to);
-
 /* Writes the files with elements in linked blocks (linked.c). */
 void linked_files(void);
 
-/* Writes contents.txt: what the library reads of each element in linked blocks, in every file of the folder (contents.c). */
+/* Writes contents.txt: what the library reads of every file of the folder that opens by the rules (contents.c). */
 void record_contents(void);
 
 #endif

@@ -137,6 +137,31 @@ static void edit_and_undo(void)
     need(hdf4_undo(buffer, 36, 37).number == HDF4_TOO_LONG, "hdf4_undo of a longer image than the buffer");
 }
 
+/* 302/7 in the free slot of the small file, named and not stored: it is found and listed and not read, and an edit stores it. */
+static void not_stored(void)
+{
+    static const uint8_t mark[] = {0x2a, 0x2b, 0x2c};
+    static const uint32_t known[8] = {100, 1, 34, 3, 302, 7, UINT32_MAX, UINT32_MAX};
+    uint8_t buffer[200] = {0};
+    uint32_t table[8];
+    memcpy(buffer, small, sizeof small);
+    put_slot(buffer + 22, 302, 7, -1, -1);
+
+    need(hdf4_open(buffer, 37).live == 2 && hdf4_find(buffer, 37, 302, 7).slot == 22, "hdf4_find of what is not stored");
+    need(hdf4_list(buffer, 37, table, 8).elements == 2 && memcmp(table, known, sizeof known) == 0, "hdf4_list of what is not stored");
+    hdf4_view_answer v = hdf4_view(buffer, 37, 302, 7);
+    need(v.number == HDF4_NOT_STORED && v.place == 22 && v.offset == 0 && v.length == 0, "hdf4_view of what is not stored");
+    hdf4_dimension_answer d = hdf4_read_dimension(buffer, 37, 302, 7);
+    need(d.number == HDF4_NOT_STORED && d.place == 22 && d.x == 0, "hdf4_read_dimension of what is not stored");
+    need(hdf4_choose(buffer, 37, small, 37, 302, 7).number == HDF4_NOT_STORED, "hdf4_choose of what is not stored");
+    need(copies(hdf4_copy(buffer, 37, 302, 7, out, 0), HDF4_NOT_STORED, 22, 0, 0), "hdf4_copy of what is not stored");
+
+    need(hdf4_add(buffer, 200, 37, 302, 7, mark, 3).number == HDF4_PRESENT, "hdf4_add of what is not stored");
+    need(hdf4_replace(buffer, 200, 37, 302, 7, mark, 3).length == 72, "hdf4_replace of what is not stored");
+    need(hdf4_view(buffer, 72, 302, 7).offset == 37 && hdf4_undo(buffer, 200, 72).length == 37, "what is stored then");
+    need(hdf4_view(buffer, 37, 302, 7).number == HDF4_NOT_STORED, "what is not stored after an undo");
+}
+
 /* The room that an edit asks for at the most: it is granted with so much, and refused with a byte less. */
 static void edit_room(void)
 {
@@ -265,7 +290,7 @@ static void names(void)
          "hdf4_refusal_text of NO_BLOCK");
     for (uint64_t number = 0; number < 100; number++)
         need(hdf4_refusal_text(number)[0] != 0, "hdf4_refusal_text of every number");
-    need(strcmp(HDF4_VERSION, "0.2.1") == 0, "HDF4_VERSION");
+    need(strcmp(HDF4_VERSION, "0.2.2") == 0, "HDF4_VERSION");
 }
 
 int main(void)
@@ -278,6 +303,7 @@ int main(void)
     size();
     copy();
     edit_and_undo();
+    not_stored();
     edit_room();
     records();
     groups();

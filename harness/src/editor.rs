@@ -63,6 +63,7 @@ pub enum Reason {
     Opening,
     Tag,
     Present,
+    PresentUnstored,
     Absent,
     Blocks,
     Slots,
@@ -142,11 +143,12 @@ enum Target {
 }
 
 fn target(directory: &Directory, edit: &Edit) -> Result<Target, Refused> {
-    match (edit.kind, directory.find(edit.tag, edit.reference)) {
-        (Kind::Add, Ok(_)) => refuse(PRESENT, Reason::Present),
-        (Kind::Add, Err(_)) => free_target(directory),
-        (_, Ok(place)) => Ok(Target::Slot { place: place as usize }),
-        (_, Err(_)) => refuse(ABSENT, Reason::Absent),
+    match (edit.kind, directory.slot(edit.tag, edit.reference)) {
+        (Kind::Add, Some(slot)) if slot.is_unstored() => refuse(PRESENT, Reason::PresentUnstored),
+        (Kind::Add, Some(_)) => refuse(PRESENT, Reason::Present),
+        (Kind::Add, None) => free_target(directory),
+        (_, Some(slot)) => Ok(Target::Slot { place: slot.place as usize }),
+        (_, None) => refuse(ABSENT, Reason::Absent),
     }
 }
 

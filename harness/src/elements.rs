@@ -5,7 +5,7 @@ use crate::compare::{self, Difference, Pairs};
 use crate::hex_dump;
 use crate::images::{self, linked};
 use crate::random::Random;
-use crate::reader;
+use crate::reader::{self, Slot, UNSTORED};
 use crate::storage::is_extended;
 use crate::tally::Tally;
 
@@ -37,22 +37,39 @@ fn start(seed: u64, index: u64) -> Random {
     Random::new(seed.rotate_left(32), index)
 }
 
-/// The second file: one of the same kind, any file, the same, or the same with its first extended element made plain.
+/// The second file: one of the same kind, any file, the same, or the same with its first extended element made plain or with
+/// some elements not stored yet.
 fn other(random: &mut Random, image: &[u8]) -> Vec<u8> {
-    match random.below(9) {
+    match random.below(10) {
         0..=4 => linked::image(random),
         5 => image.to_vec(),
         6 => made_plain(image),
+        7 => set_aside(random, image),
         _ => images::image(random).bytes,
     }
 }
 
 fn made_plain(image: &[u8]) -> Vec<u8> {
     let mut plain = image.to_vec();
-    let Ok(directory) = reader::open(image) else { return plain };
-    if let Some(slot) = directory.live().find(|slot| is_extended(slot)) {
-        let place = slot.place as usize;
-        plain[place..place + 2].copy_from_slice(&slot.base_tag().to_be_bytes());
+    if let Some(slot) = live(image).iter().find(|slot| is_extended(slot)) {
+        put(&mut plain, slot.place, &slot.base_tag().to_be_bytes());
     }
     plain
+}
+
+fn set_aside(random: &mut Random, image: &[u8]) -> Vec<u8> {
+    let mut other = image.to_vec();
+    for slot in live(image).iter().filter(|_| random.once_in(2)) {
+        put(&mut other, slot.place + 4, &[UNSTORED.to_be_bytes(); 2].concat());
+    }
+    other
+}
+
+/// The live slots, none where the file does not open.
+fn live(image: &[u8]) -> Vec<Slot> {
+    reader::open(image).map_or(Vec::new(), |directory| directory.live().cloned().collect())
+}
+
+fn put(image: &mut [u8], place: u64, bytes: &[u8]) {
+    image[place as usize..][..bytes.len()].copy_from_slice(bytes);
 }

@@ -4,7 +4,7 @@
 use crate::compare::directory::expected_open;
 use crate::compare::{compare, Pairs};
 use crate::random::Random;
-use crate::reader::{self, base_tag};
+use crate::reader::{self, base_tag, Slot};
 use crate::sequences::round_trip::round_trip;
 use crate::tally::Tally;
 use hdf4_sys::OpenAnswer;
@@ -40,10 +40,18 @@ pub fn show(path: &Path, random: &mut Random, tally: &mut Tally) -> Result<(), S
         for slot in directory.live() {
             let base = base_tag(slot.tag);
             let mark = if base == slot.tag { "" } else { " extended" };
-            println!("  {}: {base}/{} {} bytes at {}{mark}", slot.place, slot.reference, slot.length, slot.offset);
+            println!("  {}: {base}/{} {}{mark}", slot.place, slot.reference, part_of(slot));
         }
     }
     Ok(())
+}
+
+/// Length and offset of an element, which are all ones where it is not stored.
+fn part_of(slot: &Slot) -> String {
+    match (slot.length, slot.offset) {
+        (u32::MAX, u32::MAX) => "not stored".into(),
+        (length, offset) => format!("{length} bytes at {offset}"),
+    }
 }
 
 /// The bytes of a file of the folder.
@@ -66,6 +74,12 @@ fn compare_one(path: &Path, random: &mut Random, tally: &mut Tally) -> Result<Op
     Ok(expected_open(&reader::open(&image)))
 }
 
+/// The names of the files that the table expects to open.
+pub fn names_that_open() -> Result<Vec<String>, String> {
+    let opening = expected_answers()?.into_iter().filter(|(_, line)| line.starts_with("0 "));
+    Ok(opening.map(|(name, _)| name).collect())
+}
+
 /// The table of expected answers: a name, then number, place, blocks, slots and live slots.
 fn expected_answers() -> Result<BTreeMap<String, String>, String> {
     let lines = lines("expected.txt")?;
@@ -74,7 +88,7 @@ fn expected_answers() -> Result<BTreeMap<String, String>, String> {
 }
 
 /// The paths of the files of the folder, in the order of their names.
-pub fn hdf_files() -> Result<Vec<PathBuf>, String> {
+fn hdf_files() -> Result<Vec<PathBuf>, String> {
     let entries = fs::read_dir(FOLDER).map_err(|fault| format!("{FOLDER}: {fault}"))?;
     let paths = entries.filter_map(|entry| entry.ok()).map(|entry| entry.path());
     let mut files: Vec<PathBuf> = paths.filter(|path| path.extension().is_some_and(|end| end == "hdf")).collect();
@@ -87,7 +101,7 @@ fn numbers(answer: &OpenAnswer) -> String {
     format!("{number} {place} {blocks} {slots} {live}")
 }
 
-pub fn name_of(path: &Path) -> String {
+fn name_of(path: &Path) -> String {
     path.file_name().map(|name| name.to_string_lossy().into_owned()).unwrap_or_default()
 }
 

@@ -8,7 +8,7 @@ mod records;
 use crate::compare::storage::compare_huge_two;
 use crate::compare::{compare_huge, Difference};
 use crate::random::Random;
-use crate::reader::{FIRST_BYTES, MOST_BYTES};
+use crate::reader::{FIRST_BYTES, MOST_BYTES, UNSTORED};
 use crate::tally::Tally;
 use std::fs;
 
@@ -57,7 +57,9 @@ fn greatest(memory: &mut [u8], random: &mut Random, tally: &mut Tally) -> Result
     put32(image, 6, n - 6);
     image[4..6].copy_from_slice(&[0, 1]);
     image[10..14].copy_from_slice(&[0, 100, 0, 1]);
-    for (offset, length) in [(n - 7, 1), (n - 7, 2), (n - 1, 2), (22, n - 28), (22, n - 27), (n, n), (n, 0)] {
+    let stored = [(n - 7, 1), (n - 7, 2), (n - 1, 2), (22, n - 28), (22, n - 27), (n, n), (n, 0)];
+    let unstored = [(UNSTORED, UNSTORED), (UNSTORED, n), (n, UNSTORED), (UNSTORED - 1, UNSTORED)];
+    for (offset, length) in stored.into_iter().chain(unstored) {
         put32(image, 14, offset);
         put32(image, 18, length);
         compare_huge(image, random, tally)?;

@@ -156,7 +156,7 @@ fn run_all(options: &Options, random: &mut Random, tally: &mut Tally) -> Result<
     println!("{refusals} named cases of refusals, for {listed} rules alone or two at once");
 
     println!("{} real files", files::compare_all(random, tally)?);
-    println!("{} elements in linked blocks as libhdf4 read them", contents::compare_all()?);
+    println!("{}", contents::compare_all()?);
     report(tally)
 }
 

@@ -15,6 +15,7 @@ pub const ON_DIRECTORY: u64 = 9;
 pub const TWICE: u64 = 10;
 pub const ABSENT: u64 = 11;
 pub const SMALL: u64 = 14;
+pub const NOT_STORED: u64 = 29;
 
 pub const MOST_BYTES: u64 = 2_147_483_647;
 pub const MOST_BLOCKS: usize = 256;
@@ -28,6 +29,9 @@ pub const SLOT_SIZE: u64 = 12;
 pub const FREE: u16 = 1;
 pub const MACHINE_TYPE: u16 = 107;
 pub const EXTENDED: u16 = 16384;
+
+/// Offset and length of an element that is named and not stored yet.
+pub const UNSTORED: u32 = u32::MAX;
 
 /// A refusal: its number, and the place that it names.
 #[derive(Clone, Copy, Debug, PartialEq, Eq)]
@@ -89,6 +93,15 @@ impl Directory {
         }
     }
 
+    /// The same slot, where its element is stored: what every call that reads an element asks for first.
+    pub fn stored(&self, tag: u16, reference: u16) -> Result<&Slot, Refusal> {
+        match self.slot(tag, reference) {
+            None => refuse(ABSENT, 0),
+            Some(slot) if slot.is_unstored() => refuse(NOT_STORED, slot.place),
+            Some(slot) => Ok(slot),
+        }
+    }
+
     /// The live slot with the base tag of `tag` and the reference.
     pub fn slot(&self, tag: u16, reference: u16) -> Option<&Slot> {
         let wanted = (base_tag(tag), reference);
@@ -117,9 +130,15 @@ impl Slot {
         base_tag(self.tag)
     }
 
-    /// The bytes of the element, none where it is empty.
+    /// Whether the slot is live and its element not stored yet. A machine type is empty, whatever its fields.
+    pub fn is_unstored(&self) -> bool {
+        let is_named = self.is_live() && self.base_tag() != MACHINE_TYPE;
+        is_named && self.offset == UNSTORED && self.length == UNSTORED
+    }
+
+    /// The bytes of the element, none where it is empty or not stored yet.
     pub fn bytes(&self) -> Option<Range<u64>> {
-        if self.length == 0 || self.base_tag() == MACHINE_TYPE {
+        if self.length == 0 || self.base_tag() == MACHINE_TYPE || self.is_unstored() {
             return None;
         }
         let offset = u64::from(self.offset);
@@ -229,7 +248,7 @@ fn slots_of<'a>(image: &'a [u8], block: &'a Block) -> impl Iterator<Item = Slot>
     (0..block.count).map(|index| slot_at(image, block.place + BLOCK_HEAD + SLOT_SIZE * index))
 }
 
-fn slot_at(image: &[u8], place: u64) -> Slot {
+pub fn slot_at(image: &[u8], place: u64) -> Slot {
     Slot {
         place,
         tag: number16(image, place),

@@ -28,6 +28,7 @@ pub enum Cause {
     MostPairs,
     Opening,
     Absent,
+    Unstored,
     Extended,
     Length,
     Cut,
@@ -51,12 +52,14 @@ pub enum Cause {
     Field,
     Component,
     DataAbsent,
+    DataUnstored,
     DataExtended,
     DataShort,
     TableFull,
     TooManyPairs,
     Deep,
     MemberAbsent,
+    MemberUnstored,
     MemberExtended,
     MemberBroken,
     FirstRoom,
@@ -174,7 +177,7 @@ pub struct Plain<'a> {
     pub bytes: &'a [u8],
 }
 
-/// The plain element with the base tag of `tag` and the reference.
+/// The stored, plain element with the base tag of `tag` and the reference.
 pub fn plain<'a>(image: &'a [u8], opening: &Opening, tag: u16, reference: u16) -> Result<Plain<'a>, Refused> {
     match opening {
         Ok(directory) => plain_in(image, directory, tag, reference),
@@ -183,7 +186,10 @@ pub fn plain<'a>(image: &'a [u8], opening: &Opening, tag: u16, reference: u16) -
 }
 
 pub fn plain_in<'a>(image: &'a [u8], directory: &Directory, tag: u16, reference: u16) -> Result<Plain<'a>, Refused> {
-    let Some(slot) = directory.slot(tag, reference) else { return refuse(ABSENT, 0, Cause::Absent) };
+    let slot = directory.stored(tag, reference).map_err(|refusal| {
+        let cause = if refusal.number == ABSENT { Cause::Absent } else { Cause::Unstored };
+        Refused { refusal, cause }
+    })?;
     if is_extended(slot) {
         return refuse(STORAGE, slot.place, Cause::Extended);
     }

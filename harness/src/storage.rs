@@ -1,7 +1,7 @@
 //! An independent reading of elements, written from the written rules alone: view, size, copy, and the choice between two
 //! files. Each answer comes with the way to it: the rule that refused, or what was read.
 
-use crate::reader::{Directory, Refusal, Slot, ABSENT, SMALL};
+use crate::reader::{Directory, Refusal, Slot, SMALL};
 use std::ops::Range;
 
 pub const STORAGE: u64 = 12;
@@ -49,6 +49,10 @@ pub enum Way {
     Opening,
     OpeningFallback,
     Absent,
+    Unstored,
+    UnstoredExtended,
+    UnstoredOverPlain,
+    UnstoredFallback,
     Extended,
     ExtendedOverPlain,
     ExtendedFallback,
@@ -63,10 +67,12 @@ pub enum Way {
     Room,
     TableZero,
     TableAbsent,
+    TableUnstored,
     TableExtended,
     TableShort,
     BlockZero,
     BlockAbsent,
+    BlockUnstored,
     BlockExtended,
     BlockShort,
     TableTwice,
@@ -103,6 +109,7 @@ type Breach = (u64, Way);
 enum NotThere {
     Zero,
     Absent,
+    Unstored,
     Extended,
 }
 
@@ -127,13 +134,7 @@ struct Walk<'a> {
 
 /// The element's own part of the image, 0..0 where it has no bytes.
 pub fn view(opening: &Opening, tag: u16, reference: u16) -> Reading<Range<u64>> {
-    let slot = found(opened(opening)?, tag, reference)?;
-    if is_extended(slot) {
-        return extended(slot, Way::Extended);
-    }
-    let part = part_of(slot);
-    let way = plain_way(&part);
-    Ok((part, way))
+    plain(opened(opening)?, tag, reference)
 }
 
 /// How many bytes a copy of the element has. Of a linked element the record is judged, and the chain is not.
@@ -165,18 +166,16 @@ pub fn copy(image: &[u8], opening: &Opening, tag: u16, reference: u16, room: usi
 pub fn choose(current: &Opening, fallback: &Opening, tag: u16, reference: u16) -> Reading<(u64, Range<u64>)> {
     let first = opened(current)?;
     let second = opened(fallback).map_err(|refused| Refused { way: Way::OpeningFallback, ..refused })?;
-    let behind = second.slot(tag, reference);
-    if let Some(slot) = first.slot(tag, reference) {
-        return match is_extended(slot) {
-            true if behind.is_some_and(|behind| !is_extended(behind)) => extended(slot, Way::ExtendedOverPlain),
-            true => extended(slot, Way::Extended),
-            false if behind.is_some() => Ok(((1, part_of(slot)), Way::CurrentOfBoth)),
-            false => Ok(((1, part_of(slot)), Way::Current)),
-        };
+    let behind = plain(second, tag, reference);
+    if first.slot(tag, reference).is_none() {
+        let (part, _) = behind.map_err(|refused| Refused { way: refused.way.in_fallback(), ..refused })?;
+        return Ok(((2, part), Way::Fallback));
     }
-    match found(second, tag, reference)? {
-        slot if is_extended(slot) => extended(slot, Way::ExtendedFallback),
-        slot => Ok(((2, part_of(slot)), Way::Fallback)),
+    match (plain(first, tag, reference), second.slot(tag, reference)) {
+        (Ok((part, _)), None) => Ok(((1, part), Way::Current)),
+        (Ok((part, _)), Some(_)) => Ok(((1, part), Way::CurrentOfBoth)),
+        (Err(refused), _) if behind.is_ok() => Err(Refused { way: refused.way.over_plain(), ..refused }),
+        (Err(refused), _) => Err(refused),
     }
 }
 
@@ -196,20 +195,31 @@ fn part_of(slot: &Slot) -> Range<u64> {
     slot.bytes().unwrap_or(0..0)
 }
 
-fn extended<T>(slot: &Slot, way: Way) -> Result<T, Refused> {
-    refuse(STORAGE, slot.place, way)
+/// The part of a stored element in plain storage.
+fn plain(directory: &Directory, tag: u16, reference: u16) -> Reading<Range<u64>> {
+    let slot = found(directory, tag, reference)?;
+    if is_extended(slot) {
+        return refuse(STORAGE, slot.place, Way::Extended);
+    }
+    let part = part_of(slot);
+    let way = plain_way(&part);
+    Ok((part, way))
 }
 
 fn opened(opening: &Opening) -> Result<&Directory, Refused> {
     opening.as_ref().map_err(|refusal| Refused { refusal: *refusal, index: 0, way: Way::Opening })
 }
 
-/// The live slot with that base tag and reference.
+/// The slot of the stored element with that base tag and reference.
 fn found(directory: &Directory, tag: u16, reference: u16) -> Result<&Slot, Refused> {
-    match directory.slot(tag, reference) {
-        Some(slot) => Ok(slot),
-        None => refuse(ABSENT, 0, Way::Absent),
-    }
+    directory.stored(tag, reference).map_err(|refusal| {
+        let way = match directory.slot(tag, reference) {
+            None => Way::Absent,
+            Some(slot) if is_extended(slot) => Way::UnstoredExtended,
+            Some(_) => Way::Unstored,
+        };
+        Refused { refusal, index: 0, way }
+    })
 }
 
 fn plain_way(part: &Range<u64>) -> Way {
@@ -286,6 +296,26 @@ fn judge_record(record: Record) -> Result<Record, Breach> {
         Record { block_length: 0, .. } => Err((CHAIN, Way::BlockLength)),
         Record { block_count: 0, .. } => Err((CHAIN, Way::BlockCount)),
         record => Ok(record),
+    }
+}
+
+impl Way {
+    /// The way of a refusal in the fallback.
+    fn in_fallback(self) -> Way {
+        match self {
+            Way::Unstored | Way::UnstoredExtended => Way::UnstoredFallback,
+            Way::Extended => Way::ExtendedFallback,
+            other => other,
+        }
+    }
+
+    /// The way of a refusal in today's file where the fallback has a plain element, which does not answer.
+    fn over_plain(self) -> Way {
+        match self {
+            Way::Unstored | Way::UnstoredExtended => Way::UnstoredOverPlain,
+            Way::Extended => Way::ExtendedOverPlain,
+            other => other,
+        }
     }
 }
 
@@ -371,13 +401,14 @@ impl<'a> Walk<'a> {
         bytes.get(..self.missing.min(most)).map(Piece::Bytes).ok_or((SHORT_BLOCK, Way::BlockShort))
     }
 
-    /// The bytes of the table or block with a reference, which must be there and plain.
+    /// The bytes of the table or block with a reference, which must be there, stored and plain.
     fn linked(&self, reference: u16) -> Result<&'a [u8], NotThere> {
         if reference == 0 {
             return Err(NotThere::Zero);
         }
         match self.directory.slot(LINK_TAG, reference) {
             None => Err(NotThere::Absent),
+            Some(slot) if slot.is_unstored() => Err(NotThere::Unstored),
             Some(slot) if is_extended(slot) => Err(NotThere::Extended),
             Some(slot) => Ok(bytes_of(self.image, slot)),
         }
@@ -414,6 +445,7 @@ impl NotThere {
         match self {
             NotThere::Zero => Way::TableZero,
             NotThere::Absent => Way::TableAbsent,
+            NotThere::Unstored => Way::TableUnstored,
             NotThere::Extended => Way::TableExtended,
         }
     }
@@ -422,6 +454,7 @@ impl NotThere {
         match self {
             NotThere::Zero => Way::BlockZero,
             NotThere::Absent => Way::BlockAbsent,
+            NotThere::Unstored => Way::BlockUnstored,
             NotThere::Extended => Way::BlockExtended,
         }
     }

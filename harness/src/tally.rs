@@ -1,11 +1,11 @@
 //! How many files and calls were compared, and how often each answer number and each rule was reached.
 
 use crate::editor::{Reason, BAD_TRAILER, NO_EDIT, NO_ROOM, PRESENT};
-use crate::reader::{ABSENT, SMALL, TWICE};
+use crate::reader::{ABSENT, NOT_STORED, SMALL, TWICE};
 use crate::records::{Cause, DEEP, NO_VALUE, RECORD, TYPE};
 use crate::storage::{Layout, Way, CHAIN, NO_BLOCK, NO_TABLE, SHORT_BLOCK, SHORT_TABLE, STORAGE, TABLE_LOOP};
 use crate::vset::TYPES;
-use std::fmt;
+use std::{fmt, slice};
 
 /// The calls of the library. A further call gets a further case here, in `CALLS` and in `can_answer`.
 #[derive(Clone, Copy, Debug, PartialEq, Eq)]
@@ -66,6 +66,9 @@ const FILE_CALLS: usize = 11;
 const EDITS: [Call; 4] = [Call::Add, Call::Replace, Call::Remove, Call::Undo];
 const NUMBERS: usize = 31;
 
+/// The calls that are granted although an element is not stored yet, since they do not read it.
+const WITH_UNSTORED: [Call; 6] = [Call::Open, Call::List, Call::Find, Call::Replace, Call::Remove, Call::Undo];
+
 /// A call that reads an element and, where it is counted by it, the layout of the element's record; with its name in the table.
 type Read = (Call, Option<Layout>, &'static str);
 
@@ -81,7 +84,7 @@ const READS: [Read; 8] = [
 ];
 
 /// The rules that refuse an edit or an undo, with their names in the table.
-const REASONS: [(Reason, &str); 17] = [
+const REASONS: [(Reason, &str); 18] = [
     (Reason::Length, "1 length given"),
     (Reason::Limit, "1 new length"),
     (Reason::Opening, "1 to 10 opening"),
@@ -90,6 +93,7 @@ const REASONS: [(Reason, &str); 17] = [
     (Reason::Tag, "7 tag"),
     (Reason::Absent, "11 absent"),
     (Reason::Present, "18 present"),
+    (Reason::PresentUnstored, "18 not stored"),
     (Reason::Room, "19 room"),
     (Reason::NoTrailer, "20 no trailer"),
     (Reason::LengthBefore, "21 length before"),
@@ -102,7 +106,7 @@ const REASONS: [(Reason, &str); 17] = [
 ];
 
 /// The ways to an answer of a call that reads an element, with their names in the table.
-const WAYS: [(Way, &str); 41] = [
+const WAYS: [(Way, &str); 47] = [
     (Way::Plain, "0 plain"),
     (Way::Empty, "0 empty"),
     (Way::Linked, "0 linked"),
@@ -122,6 +126,10 @@ const WAYS: [(Way, &str); 41] = [
     (Way::Opening, "1 to 10 opening"),
     (Way::OpeningFallback, "1 to 10 fallback"),
     (Way::Absent, "11 absent"),
+    (Way::Unstored, "29 not stored"),
+    (Way::UnstoredExtended, "29 extended"),
+    (Way::UnstoredOverPlain, "29 above a plain one"),
+    (Way::UnstoredFallback, "29 in fallback"),
     (Way::Extended, "12 extended"),
     (Way::ExtendedOverPlain, "12 above a plain one"),
     (Way::ExtendedFallback, "12 in fallback"),
@@ -136,10 +144,12 @@ const WAYS: [(Way, &str); 41] = [
     (Way::Room, "14 room"),
     (Way::TableZero, "23 table ref 0"),
     (Way::TableAbsent, "23 table absent"),
+    (Way::TableUnstored, "23 table not stored"),
     (Way::TableExtended, "23 table extended"),
     (Way::TableShort, "24 table short"),
     (Way::BlockZero, "25 block ref 0"),
     (Way::BlockAbsent, "25 block absent"),
+    (Way::BlockUnstored, "25 block not stored"),
     (Way::BlockExtended, "25 block extended"),
     (Way::BlockShort, "26 block short"),
     (Way::TableTwice, "27 table twice"),
@@ -150,7 +160,7 @@ const WAYS: [(Way, &str); 41] = [
 const WITH_INDEX: [u64; 5] = [NO_TABLE, SHORT_TABLE, NO_BLOCK, SHORT_BLOCK, TABLE_LOOP];
 
 /// The causes of an answer of a call on records, with their names in the table.
-const CAUSES: [(Cause, &str); 43] = [
+const CAUSES: [(Cause, &str); 46] = [
     (Cause::Whole, "0 whole"),
     (Cause::BytesBehind, "0 bytes behind"),
     (Cause::ByRecord, "0 by record"),
@@ -161,6 +171,7 @@ const CAUSES: [(Cause, &str); 43] = [
     (Cause::MostPairs, "0 4,096 pairs"),
     (Cause::Opening, "1 to 10 opening"),
     (Cause::Absent, "11 absent"),
+    (Cause::Unstored, "29 not stored"),
     (Cause::Extended, "12 extended"),
     (Cause::Length, "15 length"),
     (Cause::Cut, "15 cut"),
@@ -184,12 +195,14 @@ const CAUSES: [(Cause, &str); 43] = [
     (Cause::Field, "17 field"),
     (Cause::Component, "17 component"),
     (Cause::DataAbsent, "11 data absent"),
+    (Cause::DataUnstored, "29 data not stored"),
     (Cause::DataExtended, "12 data extended"),
     (Cause::DataShort, "15 data short"),
     (Cause::TableFull, "14 table full"),
     (Cause::TooManyPairs, "14 4,097th pair"),
     (Cause::Deep, "22 deep"),
     (Cause::MemberAbsent, "11 member absent"),
+    (Cause::MemberUnstored, "29 member not stored"),
     (Cause::MemberExtended, "12 member extended"),
     (Cause::MemberBroken, "15 member broken"),
     (Cause::FirstRoom, "14 room"),
@@ -202,6 +215,8 @@ pub struct Tally {
     pub sequences: u64,
     /// Granted undos of an edit that was made before the sequence.
     pub undone_starts: u64,
+    /// Files opened and listed with elements that are not stored yet; slots of such elements found, replaced, removed, put back.
+    unstored: [u64; WITH_UNSTORED.len()],
     reached: [[u64; NUMBERS]; CALLS.len()],
     broken: [[u64; REASONS.len()]; CALLS.len()],
     gone: Counts<{ READS.len() }, { WAYS.len() }>,
@@ -260,29 +275,34 @@ impl Call {
         self as usize >= FILE_CALLS
     }
 
+    /// Whether the call reads an element of an image.
+    fn reads(self) -> bool {
+        READS.iter().any(|(call, ..)| *call == self) || (self.is_on_records() && !self.packs())
+    }
+
     /// Whether some input makes the call answer this number.
     pub fn can_answer(self, number: u64) -> bool {
         let others: &[u64] = match self {
-            Call::Open => &[],
+            Call::Open | Call::View | Call::Choose => &[],
             Call::List => &[SMALL],
             Call::Find => &[ABSENT],
-            Call::View | Call::Choose => &[ABSENT, STORAGE],
-            Call::Size => &[ABSENT, STORAGE, CHAIN],
-            Call::Copy => &[ABSENT, STORAGE, CHAIN, SMALL, NO_TABLE, SHORT_TABLE, NO_BLOCK, SHORT_BLOCK, TABLE_LOOP],
+            Call::Size => &[CHAIN],
+            Call::Copy => &[CHAIN, SMALL, NO_TABLE, SHORT_TABLE, NO_BLOCK, SHORT_BLOCK, TABLE_LOOP],
             Call::Add => &[PRESENT, NO_ROOM],
             Call::Replace | Call::Remove => &[ABSENT, NO_ROOM],
             Call::Undo => &[NO_EDIT, BAD_TRAILER],
-            Call::ReadNumberType | Call::ReadDimension => &[ABSENT, STORAGE, RECORD],
-            Call::ReadArray | Call::ReadGroup => &[ABSENT, STORAGE, SMALL, RECORD],
-            Call::ReadVdata | Call::ReadFields => &[ABSENT, STORAGE, SMALL, RECORD, TYPE],
-            Call::ReadValue => &[ABSENT, STORAGE, RECORD, TYPE, NO_VALUE],
-            Call::ListGroup => &[ABSENT, STORAGE, SMALL, RECORD, DEEP],
+            Call::ReadNumberType | Call::ReadDimension => &[RECORD],
+            Call::ReadArray | Call::ReadGroup => &[SMALL, RECORD],
+            Call::ReadVdata | Call::ReadFields => &[SMALL, RECORD, TYPE],
+            Call::ReadValue => &[RECORD, TYPE, NO_VALUE],
+            Call::ListGroup => &[SMALL, RECORD, DEEP],
             Call::PackNumberType => &[SMALL],
             Call::PackDimension | Call::PackArray | Call::PackGroup => &[SMALL, RECORD],
             Call::PackVdata => &[SMALL, RECORD, TYPE],
         };
         let opens = number <= TWICE && !self.packs();
-        number == 0 || opens || others.contains(&number)
+        let reads = [ABSENT, NOT_STORED, STORAGE].contains(&number) && self.reads();
+        number == 0 || opens || reads || others.contains(&number)
     }
 
     /// Whether this rule can refuse the call.
@@ -290,7 +310,7 @@ impl Call {
         match reason {
             Reason::Length | Reason::Opening => EDITS.contains(&self),
             Reason::Tag | Reason::Limit | Reason::Room => EDITS.contains(&self) && self != Call::Undo,
-            Reason::Present | Reason::Blocks | Reason::Slots => self == Call::Add,
+            Reason::Present | Reason::PresentUnstored | Reason::Blocks | Reason::Slots => self == Call::Add,
             Reason::Absent => self == Call::Replace || self == Call::Remove,
             _ => self == Call::Undo,
         }
@@ -305,7 +325,7 @@ impl Call {
         match cause {
             Cause::Whole => self.is_on_records() && self != Call::ReadValue && self != Call::ListGroup,
             Cause::BytesBehind => [Call::ReadGroup, Call::ReadVdata, Call::ReadFields].contains(&self),
-            Cause::Opening | Cause::Absent | Cause::Extended => self.is_on_records() && !self.packs(),
+            Cause::Opening | Cause::Absent | Cause::Unstored | Cause::Extended => self.is_on_records() && !self.packs(),
             Cause::Length => [Call::ReadNumberType, Call::ReadDimension, Call::ReadArray].contains(&self),
             Cause::Cut => (heads.contains(&self) || groups.contains(&self)) && !self.packs(),
             Cause::Rank => self == Call::ReadArray || self == Call::PackArray,
@@ -322,7 +342,7 @@ impl Call {
             Cause::ByRecord | Cause::ByField | Cause::Record | Cause::Field | Cause::Component => {
                 self == Call::ReadValue
             }
-            Cause::DataAbsent | Cause::DataExtended | Cause::DataShort => self == Call::ReadValue,
+            Cause::DataAbsent | Cause::DataUnstored | Cause::DataExtended | Cause::DataShort => self == Call::ReadValue,
             _ => self == Call::ListGroup,
         }
     }
@@ -332,11 +352,12 @@ impl Call {
 fn can_go((call, layout, _): Read, way: Way) -> bool {
     let judges_record = call == Call::Size || call == Call::Copy;
     match way {
-        Way::Opening | Way::Absent => layout.is_none(),
+        Way::Opening | Way::Absent | Way::Unstored | Way::UnstoredExtended => layout.is_none(),
         Way::Plain | Way::Empty => layout.is_none() && call != Call::Choose,
         Way::Extended => call == Call::View || call == Call::Choose,
         Way::Current | Way::CurrentOfBoth | Way::Fallback => call == Call::Choose,
-        Way::OpeningFallback | Way::ExtendedOverPlain | Way::ExtendedFallback => call == Call::Choose,
+        Way::OpeningFallback | Way::UnstoredOverPlain | Way::UnstoredFallback => call == Call::Choose,
+        Way::ExtendedOverPlain | Way::ExtendedFallback => call == Call::Choose,
         Way::OtherSizeAndKind | Way::RecordCut => layout.is_none() && judges_record,
         Way::OtherSizeOfFull | Way::OtherSizeOfSparse => layout.is_none() && judges_record,
         Way::LinkedEmpty | Way::OtherKind | Way::BlockLength | Way::BlockCount => layout.is_some(),
@@ -361,6 +382,12 @@ fn add_each<const N: usize>(table: &mut [[u64; N]], other: &[[u64; N]]) {
 impl Tally {
     pub fn count(&mut self, call: Call, number: u64) {
         self.reached[call as usize][number as usize] += 1;
+    }
+
+    /// A granted call on a file or a slot of an element that is not stored yet.
+    pub fn count_unstored(&mut self, call: Call) {
+        let column = WITH_UNSTORED.iter().position(|known| *known == call);
+        self.unstored[column.expect("a call that reads no element")] += 1;
     }
 
     pub fn count_reason(&mut self, call: Call, reason: Reason) {
@@ -396,6 +423,7 @@ impl Tally {
         self.files += other.files;
         self.sequences += other.sequences;
         self.undone_starts += other.undone_starts;
+        add_each(slice::from_mut(&mut self.unstored), &[other.unstored]);
         add_each(&mut self.reached, &other.reached);
         add_each(&mut self.broken, &other.broken);
         add_each(&mut self.gone.0, &other.gone.0);
@@ -424,9 +452,12 @@ impl Tally {
             indices.map(|(number, _)| name(Call::Copy, &format!("{number} at the first or at a later index")));
         let values = TYPES.iter().zip(&self.values).filter(|(_, counts)| counts.contains(&0));
         let values = values.map(|((number_type, _), _)| name(Call::ReadValue, &format!("type {number_type}")));
+        let unstored = WITH_UNSTORED.into_iter().zip(&self.unstored).filter(|(_, count)| **count == 0);
+        let unstored = unstored.map(|(call, _)| name(call, "an element that is not stored yet"));
         let starts = (self.undone_starts == 0).then(|| name(Call::Undo, "an edit before the sequence"));
         let reasons = reasons.map(|((_, title), call)| name(call, title));
-        numbers.chain(reasons).chain(ways).chain(indices).chain(causes).chain(values).chain(starts).collect()
+        let of_reading = ways.chain(indices).chain(causes).chain(values);
+        numbers.chain(reasons).chain(of_reading).chain(unstored).chain(starts).collect()
     }
 
     /// How often a call answered a number, where it can.
@@ -488,6 +519,8 @@ impl fmt::Display for Tally {
         for (number, counts) in self.index_counts() {
             row(out, &number.to_string(), counts.into_iter())?;
         }
+        head(out, "not stored", WITH_UNSTORED.iter().map(|call| call.title()))?;
+        row(out, "0 granted", self.unstored.iter().copied().map(Some))?;
         head(out, "record", on_records.iter().map(|call| call.title()))?;
         for (cause, title) in CAUSES {
             row(out, title, on_records.iter().map(|call| self.cause(*call, cause)))?;

@@ -267,6 +267,7 @@ fn asked_field(head: &Vdata, [record, field, component]: [u64; 3]) -> Result<Fie
 fn of_data(refused: Refused) -> Refused {
     let cause = match refused.cause {
         Cause::Absent => Cause::DataAbsent,
+        Cause::Unstored => Cause::DataUnstored,
         Cause::Extended => Cause::DataExtended,
         other => other,
     };
@@ -364,6 +365,7 @@ fn member_group(image: &[u8], directory: &Directory, reference: u16) -> Result<O
     member.map_err(|refused| {
         let cause = match refused.cause {
             Cause::Absent => Cause::MemberAbsent,
+            Cause::Unstored => Cause::MemberUnstored,
             Cause::Extended => Cause::MemberExtended,
             _ => Cause::MemberBroken,
         };

@@ -101,14 +101,15 @@ static size_t mark_opened(int groups)
 int main(void)
 {
     stack_painted = (size_t)1 << 20;
-    size_t few = mark_listed(FEW), most = mark_listed(LEVELS);
-    size_t level = (most - few) / (LEVELS - FEW), besides = most - LEVELS * level;
+    size_t few = mark_listed(FEW), level = mark_listed(FEW + 1) - few, besides = few - FEW * level;
+    size_t most = mark_listed(LEVELS);
     need_of(FEW, few > mark_opened(FEW), "listing them costs more than opening");
 
-    for (int groups = 1; groups <= LEVELS; groups++) {
+    for (int groups = 1; groups < LEVELS; groups++) {
         size_t opened = mark_opened(groups), walked = besides + (size_t)groups * level;
         need_of(groups, mark_listed(groups) == (walked > opened ? walked : opened), "each level costs the same");
     }
+    need_of(LEVELS, most <= besides + LEVELS * level, "the last one, in which no group is entered, costs no more");
     for (size_t i = 0; i < sizeof too_many / sizeof *too_many; i++)
         need_of(too_many[i], mark_refused(1, too_many[i], HDF4_DEEP) < most + level, "refusing them costs no further level");
 

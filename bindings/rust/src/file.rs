@@ -361,6 +361,27 @@ mod tests {
         File::new(file_of(&[(16484, 1, &record), (20, 1, &table), (20, 2, &[b'a'; 40])])).unwrap()
     }
 
+    /// A file that libhdf4 wrote, whose SD interface left the values of a Vdata without records, 1963/7, not stored.
+    #[test]
+    fn a_real_file_has_an_element_that_is_not_stored() {
+        let bytes = std::fs::read(concat!(env!("CARGO_MANIFEST_DIR"), "/../../harness/files/mixed.hdf")).unwrap();
+        let mut file = File::new(bytes.clone()).unwrap();
+        let unstored = |file: &File| file.elements().filter(|element| !element.is_stored()).collect::<Vec<Element>>();
+        let [element] = unstored(&file)[..] else { panic!("{:?}", unstored(&file)) };
+        assert_eq!((element.tag, element.reference, file.find(1963, 7)), (1963, 7, Ok(142)));
+        let not_stored = (Rule::NotStored, 29, 142);
+        assert_eq!((rule(file.view(1963, 7)), rule(file.copy(1963, 7, 100))), (not_stored, not_stored));
+        assert_eq!((rule(file.size(1963, 7)), file.vdata(7).unwrap().records), (not_stored, 0));
+        assert_eq!(rule(file.add(1963, 7, b"snow")), (Rule::Present, 18, 0));
+        file.replace(1963, 7, b"snow").unwrap();
+        assert_eq!((file.view(1963, 7), unstored(&file)), (Ok(&b"snow"[..]), vec![]));
+        file.undo().unwrap();
+        file.remove(1963, 7).unwrap();
+        assert_eq!((rule(file.view(1963, 7)), file.counts().live), ((Rule::Absent, 11, 0), 20));
+        file.undo().unwrap();
+        assert_eq!(file.bytes(), bytes);
+    }
+
     #[test]
     fn a_linked_element_is_copied_also_where_it_is_longer_than_its_file() {
         let file = linked();

@@ -9,7 +9,8 @@
 //! # Reading
 //!
 //! [`open`] judges an image and counts its directory, [`list`] and [`elements`] give its elements, [`find`] the descriptor of
-//! one.
+//! one. An element may be named there and not stored yet ([`Element::is_stored`]): what reads it is refused with
+//! [`Rule::NotStored`].
 //!
 //! [`view`] gives an element's own part of the image, [`choose`] that of the first of two images that has the element, and
 //! [`copy`] writes its bytes to a buffer, also where the element is of linked blocks; [`size`] tells how long the buffer must be.
@@ -132,10 +133,40 @@ pub struct Element {
     pub tag: u16,
     /// The reference.
     pub reference: u16,
-    /// Where the element begins in the image.
+    /// Where the element begins in the image; 4294967295 where it is not stored yet.
     pub offset: u32,
-    /// How many bytes it has there.
+    /// How many bytes it has there; 4294967295 where it is not stored yet.
     pub length: u32,
+}
+
+/// Offset and length of an element that is named and not stored yet.
+const SET_ASIDE: u32 = u32::MAX;
+
+/// The tag whose elements are empty, whatever their offset and length say.
+const MACHINE_TYPE: u16 = 107;
+
+impl Element {
+    /// Whether the element is stored.
+    ///
+    /// libhdf4 names an element before it stores it, and its SD interface leaves one that is never stored in every file with a
+    /// data set. Such an element has no bytes. It is found and listed, and what reads it is refused with [`Rule::NotStored`].
+    /// [`replace`] stores it, [`remove`] removes it, and [`add`] is refused, since it is there already.
+    ///
+    /// ```
+    /// # fn main() -> Result<(), hdf4::Error> {
+    /// // Element 1963/7 is not stored.
+    /// let image = b"\x0e\x03\x13\x01\0\x01\0\0\0\0\x07\xab\0\x07\xff\xff\xff\xff\xff\xff\xff\xff";
+    /// let mut file = hdf4::File::new(image.to_vec())?;
+    /// assert!(file.elements().all(|element| !element.is_stored()));
+    /// assert_eq!(file.view(1963, 7).unwrap_err().rule, hdf4::Rule::NotStored);
+    /// file.replace(1963, 7, b"snow")?;
+    /// assert!(file.elements().all(|element| element.is_stored()));
+    /// # Ok(())
+    /// # }
+    /// ```
+    pub fn is_stored(&self) -> bool {
+        [self.offset, self.length] != [SET_ASIDE; 2] || base_tag(self.tag) == MACHINE_TYPE
+    }
 }
 
 /// The base tag of a tag: from 16384 to 32767 the tag less 16384, else the tag itself.
@@ -191,7 +222,8 @@ fn part(image: &[u8], offset: u64, length: u64) -> &[u8] {
     &image[start..start + length as usize]
 }
 
-/// Gives an element's own part of the image, empty where the element has no bytes. An extended element is refused.
+/// Gives an element's own part of the image, empty where the element has no bytes. One that is not stored yet is refused, and so
+/// is an extended one.
 pub fn view(image: &[u8], tag: u16, reference: u16) -> Result<&[u8], Error> {
     let a = ffi::view(image, tag, reference);
     granted(a.number, a.place, ())?;
@@ -199,7 +231,8 @@ pub fn view(image: &[u8], tag: u16, reference: u16) -> Result<&[u8], Error> {
 }
 
 /// Gives the number of bytes that [`copy`] would write, and so how long its `out` must be. The element is plain or of linked
-/// blocks; their record is judged, and their tables and blocks are not: [`copy`] may still refuse these.
+/// blocks; their record is judged, and their tables and blocks are not: [`copy`] may still refuse these. An element that is not
+/// stored yet has no size, and is refused.
 ///
 /// ```
 /// # fn main() -> Result<(), hdf4::Error> {
@@ -219,7 +252,7 @@ pub fn size(image: &[u8], tag: u16, reference: u16) -> Result<usize, Error> {
 
 /// Copies an element's bytes to the front of `out` and gives their number; the rest of `out` stays as it was. The element is
 /// plain or of linked blocks, of which one that was never written reads as zeros. Where they are broken the refusal says which
-/// table or block is.
+/// table or block is. An element that is not stored yet is refused.
 pub fn copy(image: &[u8], tag: u16, reference: u16, out: &mut [u8]) -> Result<usize, CopyError> {
     let a = ffi::copy(image, tag, reference, out);
     granted(a.number, a.place, a.length as usize).map_err(|_| CopyError::new(a.number, a.place, a.index))
@@ -227,7 +260,8 @@ pub fn copy(image: &[u8], tag: u16, reference: u16, out: &mut [u8]) -> Result<us
 
 /// Gives an element's own part of the current image or, where that has no such element, of the fallback.
 ///
-/// Both images must open. An element that is extended in the current image is refused, whatever the fallback has.
+/// Both images must open. An element that is not stored yet or extended in the current image is refused, whatever the fallback
+/// has.
 pub fn choose<'a>(current: &'a [u8], fallback: &'a [u8], tag: u16, reference: u16) -> Result<(Source, &'a [u8]), Error> {
     let a = ffi::choose(current, fallback, tag, reference);
     granted(a.number, a.place, ())?;
@@ -243,12 +277,13 @@ fn edited(answer: ffi::EditAnswer) -> Result<usize, Error> {
 /// length of the data above the old one.
 ///
 /// It takes the first free descriptor or, where there is none, one of a new block. The tag is not 0, 1 or 107, and not of the
-/// extended form, 16384 to 32767.
+/// extended form, 16384 to 32767. An element that is not stored yet is there already: [`replace`] stores it.
 pub fn add(buffer: &mut [u8], length: usize, tag: u16, reference: u16, data: &[u8]) -> Result<usize, Error> {
     edited(ffi::add(buffer, length as u64, tag, reference, data))
 }
 
-/// Gives an element of the image in the first `length` bytes of a buffer other data. Gives the new length.
+/// Gives an element of the image in the first `length` bytes of a buffer other data, its first where it is not stored yet. Gives
+/// the new length.
 pub fn replace(buffer: &mut [u8], length: usize, tag: u16, reference: u16, data: &[u8]) -> Result<usize, Error> {
     edited(ffi::replace(buffer, length as u64, tag, reference, data))
 }
@@ -418,6 +453,54 @@ pub(crate) mod tests {
         image
     }
 
+    /// The same file with one of its elements, given by its index, named and not stored.
+    pub fn unstored(mut image: Vec<u8>, index: usize) -> Vec<u8> {
+        image[10 + 12 * index..][4..12].fill(0xff);
+        image
+    }
+
+    #[test]
+    fn an_element_that_is_not_stored_is_listed_and_not_read() {
+        let not_stored = (Rule::NotStored, 29, 22);
+        for tag in [200, 16584] {
+            let image = unstored(file_of(&[(100, 1, b"hub"), (tag, 7, b"")]), 1);
+            assert_eq!(open(&image), Ok(Counts { blocks: 1, slots: 2, live: 2 }));
+            assert_eq!(find(&image, 200, 7), Ok(22));
+            let element = Element { tag, reference: 7, offset: u32::MAX, length: u32::MAX };
+            assert_eq!(list(&image).unwrap()[1], element);
+            assert_eq!((rule(view(&image, 200, 7)), rule(size(&image, 200, 7))), (not_stored, not_stored));
+            assert_eq!(rule(copy(&image, 200, 7, &mut [])), not_stored);
+            assert_eq!(copy(&image, 200, 7, &mut []).unwrap_err().link, None);
+            assert_eq!(rule(choose(&image, &file_of(&[(200, 7, b"north")]), 200, 7)), not_stored);
+            assert_eq!(choose(&A, &image, 200, 7).unwrap_err().rule, Rule::NotStored);
+        }
+    }
+
+    #[test]
+    fn an_element_is_stored_unless_both_its_fields_are_all_ones() {
+        let is_stored = |tag, offset, length| Element { tag, reference: 7, offset, length }.is_stored();
+        assert!(!is_stored(200, u32::MAX, u32::MAX) && !is_stored(16584, u32::MAX, u32::MAX));
+        assert!(is_stored(200, 34, 3) && is_stored(200, u32::MAX, 0) && is_stored(200, 0, 0));
+        // An element of tag 107 is empty.
+        for tag in [107, 16491] {
+            let image = unstored(file_of(&[(tag, 7, b"")]), 0);
+            assert!(list(&image).unwrap()[0].is_stored());
+            assert_eq!(size(&image, 107, 7).map_err(|refused| refused.rule), if tag == 107 { Ok(0) } else { Err(Rule::Chain) });
+        }
+    }
+
+    #[test]
+    fn records_that_are_not_stored_are_refused() {
+        let records = [106, 300, 701, 1962, 1965].map(|tag| (tag, 7, &b""[..]));
+        let image = (0..records.len()).fold(file_of(&records), unstored);
+        let not_stored = |index: u64| (Rule::NotStored, 29, 10 + 12 * index);
+        assert_eq!(rule(read_number_type(&image, 7)), not_stored(0));
+        assert_eq!(rule(read_dimension(&image, 300, 7)), not_stored(1));
+        assert_eq!(rule(read_array(&image, 7)), not_stored(2));
+        assert_eq!((rule(read_vdata(&image, 7)), rule(read_value(&image, 7, 0, 0, 0))), (not_stored(3), not_stored(3)));
+        assert_eq!((rule(read_group(&image, 7)), rule(list_group(&image, 7))), (not_stored(4), not_stored(4)));
+    }
+
     #[test]
     fn two_adds_and_three_undos() {
         let mut buffer = lent(400);
@@ -458,6 +541,22 @@ pub(crate) mod tests {
         assert_eq!(undo(&mut buffer, removed), Ok(replaced));
         assert_eq!(undo(&mut buffer, replaced), Ok(37));
         assert_eq!(buffer[..37], A);
+    }
+
+    #[test]
+    fn an_element_that_is_not_stored_is_replaced_or_removed_and_not_added() {
+        let image = unstored(A.to_vec(), 0);
+        let mut buffer = image.clone();
+        buffer.resize(37 + EDIT_ROOM, BEHIND);
+        assert_eq!(rule(add(&mut buffer, 37, 100, 1, b"")), (Rule::Present, 18, 0));
+        let replaced = replace(&mut buffer, 37, 100, 1, b"hubs").unwrap();
+        assert_eq!(view(&buffer[..replaced], 100, 1), Ok(&b"hubs"[..]));
+        assert_eq!(undo(&mut buffer, replaced), Ok(37));
+        assert_eq!(buffer[..37], image);
+        let removed = remove(&mut buffer, 37, 100, 1).unwrap();
+        assert_eq!(list(&buffer[..removed]), Ok(vec![]));
+        assert_eq!(undo(&mut buffer, removed), Ok(37));
+        assert_eq!(buffer[..37], image);
     }
 
     #[test]

@@ -151,7 +151,7 @@ impl Record {
 
 impl<'a> Links<'a> {
     /// Those of the element whose slot is at a place. None where the image does not open, or has no slot there, or one of an
-    /// element that is not in linked blocks or whose record breaks its layout.
+    /// element that is not stored, not in linked blocks, or whose record breaks its layout.
     pub fn of(image: &'a [u8], place: u64) -> Option<Links<'a>> {
         let slot = usize::try_from(place).ok()?;
         let [tag, reference] = [number(image.get(slot..)?, 0)?, number(image.get(slot..)?, 1)?];
@@ -225,6 +225,7 @@ fn number(bytes: &[u8], index: usize) -> Option<u16> {
     bytes.as_chunks::<2>().0.get(index).map(|number| u16::from_be_bytes(*number))
 }
 
+/// The bytes of an element where they stand in the image. None of one that is not stored: no image reaches as far as its offset.
 fn bytes_of<'a>(image: &'a [u8], element: &Element) -> Option<&'a [u8]> {
     image.get(element.offset as usize..)?.get(..element.length as usize)
 }
@@ -250,7 +251,7 @@ pub fn link_reference(image: &[u8], place: u64, link: Link) -> Option<u16> {
 #[cfg(test)]
 mod tests {
     use super::*;
-    use crate::tests::file_of;
+    use crate::tests::{file_of, unstored};
     use crate::{copy, size, view, File};
 
     type Elements = Vec<(u16, u16, Vec<u8>)>;
@@ -295,7 +296,10 @@ mod tests {
 
     /// What copying 100/1 is refused for, and the reference of the table or block that is broken.
     fn broken(elements: &Elements) -> (Rule, Link, Option<u16>) {
-        let image = image(elements);
+        broken_in(image(elements))
+    }
+
+    fn broken_in(image: Vec<u8>) -> (Rule, Link, Option<u16>) {
         let refused = copy(&image, 100, 1, &mut [0; 300]).unwrap_err();
         assert_eq!(refused.place, PLACE);
         let link = refused.link.unwrap();
@@ -346,6 +350,25 @@ mod tests {
         assert_eq!(changed(4, |block| block.2.truncate(4)), (Rule::ShortBlock, Link::Block(1), Some(12)));
         // Block 0 gives what it has, and the later ones so much more.
         assert_eq!(changed(3, |block| block.2.truncate(3)), (Rule::ShortBlock, Link::Block(3), Some(14)));
+    }
+
+    #[test]
+    fn a_table_or_block_that_is_not_stored_is_named() {
+        for elements in [elements(), sparse()] {
+            let unstored = |index| broken_in(unstored(image(&elements), index));
+            assert_eq!(unstored(1), (Rule::NoTable, Link::Table(0), Some(1)));
+            assert_eq!(unstored(2), (Rule::NoTable, Link::Table(1), Some(2)));
+            assert_eq!(unstored(3), (Rule::NoBlock, Link::Block(0), Some(11)));
+            assert_eq!(unstored(6), (Rule::NoBlock, Link::Block(3), Some(14)));
+        }
+    }
+
+    #[test]
+    fn an_element_that_is_not_stored_has_no_links() {
+        let image = unstored(image(&elements()), 0);
+        let refused = copy(&image, 100, 1, &mut [0; 300]).unwrap_err();
+        assert_eq!((refused.rule, refused.place, refused.link), (Rule::NotStored, PLACE, None));
+        assert!(Links::of(&image, PLACE).is_none());
     }
 
     #[test]

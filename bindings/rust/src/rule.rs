@@ -52,17 +52,19 @@ pub enum Rule {
     BadTrailer,
     /// Groups are nested past 16; the place is the slot of the 16th.
     Deep,
-    /// A table of the element's linked blocks is absent or extended, or its reference is 0; the index is the table's.
+    /// A table of the element's linked blocks is absent, not stored or extended, or its reference is 0; the index is the table's.
     NoTable,
     /// A table of the element's linked blocks has too few bytes for its entries; the index is the table's.
     ShortTable,
-    /// A linked block is absent or extended, or its reference is 0 by a record of 22 bytes; the index is the block's, through the
-    /// whole element.
+    /// A linked block is absent, not stored or extended, or its reference is 0 by a record of 22 bytes; the index is the block's,
+    /// through the whole element.
     NoBlock,
     /// A linked block has fewer bytes than are taken from it; the index is the block's, through the whole element.
     ShortBlock,
     /// A table of the element's linked blocks is one already walked, or a 257th; the index is the table's.
     TableLoop,
+    /// The element is named and not stored yet: offset and length of its slot are 4294967295.
+    NotStored,
     /// A rule that this crate does not know, by its number: the library that is linked is a newer one.
     Unknown(u64),
 }
@@ -98,6 +100,7 @@ impl Rule {
             hdf4_sys::NO_BLOCK => Rule::NoBlock,
             hdf4_sys::SHORT_BLOCK => Rule::ShortBlock,
             hdf4_sys::TABLE_LOOP => Rule::TableLoop,
+            hdf4_sys::NOT_STORED => Rule::NotStored,
             other => Rule::Unknown(other),
         }
     }
@@ -132,6 +135,7 @@ impl Rule {
             Rule::NoBlock => hdf4_sys::NO_BLOCK,
             Rule::ShortBlock => hdf4_sys::SHORT_BLOCK,
             Rule::TableLoop => hdf4_sys::TABLE_LOOP,
+            Rule::NotStored => hdf4_sys::NOT_STORED,
             Rule::Unknown(number) => number,
         }
     }

@@ -22,6 +22,12 @@ pub fn slot(index: usize) -> usize {
     10 + 12 * index
 }
 
+/// The image with the element of the slot at a place named and not stored, as libhdf4 marks it: offset and length all ones.
+pub fn unstored(mut image: Vec<u8>, slot: usize) -> Vec<u8> {
+    image[slot + 4..slot + 12].fill(0xff);
+    image
+}
+
 /// Numbers of 16 bits, high byte first.
 pub fn shorts(numbers: &[u16]) -> Vec<u8> {
     numbers.iter().flat_map(|number| number.to_be_bytes()).collect()

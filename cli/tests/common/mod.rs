@@ -47,6 +47,11 @@ impl Folder {
         path
     }
 
+    /// A copy of one of the real files in which the element of the slot at a place is not stored.
+    pub fn unstored_copy_of(&self, name: &str, slot: usize) -> PathBuf {
+        self.holding(name, &files::unstored(fs::read(file(name)).unwrap(), slot))
+    }
+
     /// A new file with these bytes.
     pub fn holding(&self, name: &str, bytes: &[u8]) -> PathBuf {
         let path = self.path(name);

@@ -101,11 +101,20 @@ all-then : (R S : Rules) → AllHold (followed R S) → AllHold R × AllHold S
 all-then done S a = (tt, a)
 all-then (rule number place Holds rest) S a = let r = all-then rest S (a .1) in ((a .0, r .0), r .1)
 
-broken-then : (R S : Rules) (n p : ℕ) → FirstBroken (followed R S) n p → FirstBroken R n p ⊎ (AllHold R × FirstBroken S n p)
+pub broken-then : (R S : Rules) (n p : ℕ) → FirstBroken (followed R S) n p → FirstBroken R n p ⊎ (AllHold R × FirstBroken S n p)
 broken-then done S n p b = inr (tt, b)
 broken-then (rule number place Holds rest) S n p (inl b) = inl (inl b)
 broken-then (rule number place Holds rest) S n p (inr b) =
     elim (broken-then rest S n p (b .1)) [ inl x ↦ inl (inr (b .0, x)) | inr x ↦ inr ((b .0, x .0), x .1) ]
+
+pub first-then : (R S : Rules) (n p : ℕ) → FirstBroken R n p → FirstBroken (followed R S) n p
+first-then done S n p b = absurd b
+first-then (rule number place Holds rest) S n p (inl b) = inl b
+first-then (rule number place Holds rest) S n p (inr b) = inr (b .0, first-then rest S n p (b .1))
+
+pub then-broken : (R S : Rules) (n p : ℕ) → AllHold R → FirstBroken S n p → FirstBroken (followed R S) n p
+then-broken done S n p a b = b
+then-broken (rule number place Holds rest) S n p a b = inr (a .0, then-broken rest S n p (a .1) b)
 
 -- a number goes by the first ones, and where it is 0 a result by the others
 pub goes-then : (Granted : Type 0) (Refused : ℕ → ℕ → Type 0) (R S : Rules) (place fault : ℕ) → Tells R place fault → ((fault ≡ 0 → ⊥) → Refused fault place)

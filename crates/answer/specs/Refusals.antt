@@ -81,3 +81,6 @@ SHORT-BLOCK = 26
 
 abbrev pub TABLE-LOOP : ℕ
 TABLE-LOOP = 27
+
+abbrev pub NOT-STORED : ℕ
+NOT-STORED = 29

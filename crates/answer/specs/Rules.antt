@@ -18,6 +18,11 @@ abbrev pub FirstBroken : Rules → ℕ → ℕ → Type 0
 FirstBroken done n p = ⊥
 FirstBroken (rule number place Holds rest) n p = ((n ≡ number) × (p ≡ place) × (Holds → ⊥)) ⊎ (Holds × FirstBroken rest n p)
 
+-- the rules of one number are broken, and all others hold
+abbrev pub OnlyBroken : ℕ → Rules → Type 0
+OnlyBroken n done = Unit {0}
+OnlyBroken n (rule number place Holds rest) = (number ≡ n → Holds → ⊥) × ((number ≡ n → ⊥) → Holds) × OnlyBroken n rest
+
 -- rules, then others
 abbrev pub followed : Rules → Rules → Rules
 followed done S = S

@@ -85,7 +85,7 @@ pub const BAD_TRAILER: usize = 21;
 // Says: groups are nested more than 16 deep.
 pub const DEEP: usize = 22;
 
-// A table of the element's linked blocks is absent or extended, or its reference is 0; the index is the table's.
+// A table of the element's linked blocks is absent, not stored or extended, or its reference is 0; the index is the table's.
 // Says: a table of the element's linked blocks is not there.
 pub const NO_TABLE: usize = 23;
 
@@ -93,7 +93,7 @@ pub const NO_TABLE: usize = 23;
 // Says: a table of the element's linked blocks is too short.
 pub const SHORT_TABLE: usize = 24;
 
-// A linked block is absent or extended, or its reference is 0 by a record of 22 bytes; the index is the block's, through the whole element.
+// A linked block is absent, not stored or extended, or its reference is 0 by a record of 22 bytes; the index is the block's, through the whole element.
 // Says: a linked block of the element is not there.
 pub const NO_BLOCK: usize = 25;
 
@@ -104,3 +104,7 @@ pub const SHORT_BLOCK: usize = 26;
 // A table of the element's linked blocks is one already walked, or a 257th; the index is the table's.
 // Says: the tables of the element's linked blocks repeat or run past 256.
 pub const TABLE_LOOP: usize = 27;
+
+// The element is named and not stored yet: offset and length of its slot are 4294967295.
+// Says: the element is named in the directory and not stored yet.
+pub const NOT_STORED: usize = 29;

@@ -133,7 +133,7 @@ slot-tells s bs earlier p =
 
 -- ---- Each of a list, after those before it
 
-none-yet : (Holds : List ℕ → ℕ → Type 0) → Each Holds []
+pub none-yet : (Holds : List ℕ → ℕ → Type 0) → Each Holds []
 none-yet Holds before x after e = absurd (omega (arith, length-append before (x ∷ after), ap length e))
 
 -- a list with one more at its end, parted around one of it: the last one, or one before
@@ -159,7 +159,7 @@ each-keeps Holds Kept more before (x ∷ rest) k all =
     rw append-snoc at (each-keeps Holds Kept more (before ++ (x ∷ [])) rest (more before x k (all before x rest refl)) (rw append-snoc all))
 
 -- it holds of each, or there is a first of which it fails
-each-judged : (Holds Fails : List ℕ → ℕ → Type 0) → ((before : List ℕ) (x : ℕ) → Holds before x ⊎ Fails before x) → (before rest : List ℕ) → Each Holds before
+pub each-judged : (Holds Fails : List ℕ → ℕ → Type 0) → ((before : List ℕ) (x : ℕ) → Holds before x ⊎ Fails before x) → (before rest : List ℕ) → Each Holds before
     → Each Holds (before ++ rest) ⊎ ((earlier : List ℕ) × (x : ℕ) × (after : List ℕ) × (before ++ rest ≡ earlier ++ (x ∷ after)) × Each Holds earlier × Fails earlier x)
 each-judged Holds Fails judge before [] all = inl (rw append-nil all)
 each-judged Holds Fails judge before (x ∷ rest) all =

@@ -31,7 +31,7 @@ edit-plain s p tag is good = plain-tag s p .1 (rw is (good .3))
 reads-given : (t : List ℕ) (tag ref : ℕ) (content : List ℕ) → ReadsBack t tag ref content → EditTag tag → GivesContent t tag ref content
 reads-given t tag ref content r good =
     let p = r .slot in
-    let v = view-plain t tag ref p (granted-opens t tag ref p (r .found)) (find-found t tag ref p (r .found) .0) (edit-plain t p tag (r .tag-is) good) in
+    let v = view-plain t tag ref p (granted-opens t tag ref p (r .found)) (find-found t tag ref p (r .found) .0) (r .stored) (edit-plain t p tag (r .tag-is) good) in
     let is : bytesOf t (viewOf t tag ref) ≡ content = v .1 ∙ r .content-is in
     let size = sym (granted-view t tag ref _ _ (v .0) .1 .long) ∙ ap length (sym (bytes-granted t (viewOf t tag ref) _ _ (v .0)) ∙ is) in
     let viewed = v .0 ∙ ap (λ n. grant (startAt t p ∷ n ∷ [])) size in

@@ -17,7 +17,7 @@ use Rattle.storage.specs.Views.{viewOf}
 use Rattle.storage.specs.Sizes.{sizeOfStored, sizeFound, sizeOf}
 use Rattle.storage.specs.Choices.{chooseFound, chooseOf}
 use Rattle.storage.specs.declared.element.Element.{Element}
-use Rattle.storage.specs.declared.element.Element.the-variants.{Absent, Plain, Extended}
+use Rattle.storage.specs.declared.element.Element.the-variants.{Absent, NotStored, Plain, Extended}
 use Rattle.storage.specs.declared.element.Located.{Located}
 use Rattle.storage.specs.declared.element.Located.the-variants as located
 use Rattle.records.specs.Readings.{soundIn, recordAt}
@@ -61,6 +61,7 @@ size-proper s tag ref = opened-proper 1 s _ (go (elementAt s (find s tag ref)))
   where
     go : (x : Element) → Proper 1 (sizeFound s x)
     go Absent = proper-refuse 1 11 0 (suc-ne-zero 10)
+    go (NotStored p) = proper-refuse 1 29 p (suc-ne-zero 28)
     go (Plain p offset size) = proper-unless 1 _ _ _ (proper-grant 1 _)
     go (Extended p) = proper-unless 1 _ _ _ (proper-grant 1 _)
 
@@ -73,6 +74,7 @@ list-proper s room = opened-proper 1 s _ (proper-room 1 _ _ (proper-grant 1 _))
 plain-proper : (k : ℕ) (answer : ℕ → ℕ → ℕ → Answer) → ((p offset size : ℕ) → Proper k (answer p offset size)) → (x : Element)
     → Proper k (onPlain k answer (plainOnly x))
 plain-proper k answer h Absent = proper-refuse k 11 0 (suc-ne-zero 10)
+plain-proper k answer h (NotStored p) = proper-refuse k 29 p (suc-ne-zero 28)
 plain-proper k answer h (Plain p offset size) = h p offset size
 plain-proper k answer h (Extended p) = proper-refuse k 12 p (suc-ne-zero 11)
 
@@ -86,6 +88,7 @@ choose-proper s t tag ref = opened-proper 3 s _ (opened-proper 3 t _ (go (elemen
   where
     go : (x y : Element) → Proper 3 (chooseFound x y)
     go Absent y = plain-proper 3 _ (λ p offset size. proper-grant 3 _) y
+    go (NotStored p) y = proper-refuse 3 29 p (suc-ne-zero 28)
     go (Plain p offset size) y = proper-grant 3 _
     go (Extended p) y = proper-refuse 3 12 p (suc-ne-zero 11)
 

@@ -163,7 +163,8 @@ pub extern "C" fn hdf4_find(image: &[u8], tag: u16, reference: u16) -> FindAnswe
     }
 }
 
-// Lists the live slots in chain order to the front of a lent table: tag, reference, offset and length of each, as they are stored. A table of
+// Lists the live slots in chain order to the front of a lent table: tag, reference, offset and length of each, as they stand in its slot. Offset and
+// length of an element that is named and not stored yet are 4294967295; every call that reads it answers `NOT_STORED`. A table of
 // 4 times `MOST_ELEMENTS` entries is always enough.
 #[no_mangle]
 pub extern "C" fn hdf4_list(image: &[u8], table: &mut [u32]) -> ListAnswer

@@ -333,8 +333,8 @@ pub extern "C" fn hdf4_read_value(
 }
 
 // Lists the members of a Vgroup in order, each member of tag 1965 followed by its own members: tag and reference of each. There are at most
-// `MOST_PAIRS` pairs, and at most 16 groups nested, the named one included. It keeps 576 bytes of stack, or 264 and 352 for each group
-// nested where that is more: 5,896 at the most.
+// `MOST_PAIRS` pairs, and at most 16 groups nested, the named one included. It keeps 576 bytes of stack, or 264 and 336 for each group
+// nested where that is more: 5,632 at the most.
 #[no_mangle]
 pub extern "C" fn hdf4_list_group(image: &[u8], reference: u16, list: &mut [u16]) -> PairsAnswer
     ensures { λ r. ⌜ (let s = now (image .entry) in let room = length (now (list .entry)) in

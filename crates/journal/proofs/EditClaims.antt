@@ -1,7 +1,7 @@
 -- The claims about edits: what is read of the file after one, what of it is as before, that it opens, and its length. Assumes nothing.
 use Prim.Native.Nat.{ℕ, _<_}
 use mathlib.Core.Path.{_≡_, sym, _∙_}
-use mathlib.Core.Logic.{inl, inr}
+use mathlib.Core.Logic.{_↔_, inl, inr}
 use mathlib.Core.List.{List}
 use native.Mathlib.Omega.{arith}
 use lib.ListN.{length}
@@ -13,7 +13,8 @@ use Rattle.directory.specs.Slots.{tagAt, offsetAt, sizeAt, elementEnd, contentA
 use Rattle.directory.specs.Opening.{openOf}
 use Rattle.directory.specs.Lookup.{findOf}
 use Rattle.answer.specs.Search.{In}
-use Rattle.directory.specs.Rules.{Live}
+use Rattle.directory.specs.Rules.{Live, Unstored}
+use Rattle.directory.proofs.Slots.{unstored-is}
 use Rattle.directory.specs.Named.{Named}
 use Rattle.answer.proofs.Tests.{same?, zero?}
 use Rattle.directory.proofs.Rules.{opens-kept, kept-blocks, chain-kept}
@@ -53,6 +54,12 @@ module _ (s : List ℕ) (capacity : ℕ) (e : Edit) (t : List ℕ) (m : Made s c
   unfolding slotsOf
   tag-after p i d = m .framed .stays p i d .1 .tag
 
+  unstored-after : (p : ℕ) → In p (slotsOf s) → (p ≡ m .slot → ⊥) → Unstored t p ↔ Unstored s p
+  unfolding slotsOf
+  unstored-after p i d =
+      let same = m .framed .stays p i d .1 .unstored in
+      ((λ u. unstored-is s p .0 (sym same ∙ unstored-is t p .1 u)), (λ u. unstored-is t p .0 (same ∙ unstored-is s p .1 u)))
+
   content-after : (p : ℕ) → In p (slotsOf s) → Live s p → (p ≡ m .slot → ⊥) → contentAt t p ≡ contentAt s p
   unfolding slotsOf contentAt part
   content-after p i l d =
@@ -81,7 +88,7 @@ module _ (s : List ℕ) (capacity : ℕ) (e : Edit) (t : List ℕ) (m : Made s c
         found = λ p h.
             let n = find-found s tag ref p h .0 in
             let d : p ≡ m .slot → ⊥ = λ q. differ s (m .slot) (rw q at n) (m .before (rw q at (n .slot)) (rw q at (n .live))) in
-            (find-finds t tag ref p (made-opens m) (named-after tag ref p d n), tag-after p (n .slot) d, content-after p (n .slot) (n .live) d);
+            (find-finds t tag ref p (made-opens m) (named-after tag ref p d n), tag-after p (n .slot) d, unstored-after p (n .slot) d, content-after p (n .slot) (n .live) d);
       }
 
 -- ---- The claims
@@ -93,6 +100,7 @@ reads-back s capacity e t f =
       slot = m .slot;
       found = find-finds t (tagOf e) (refOf e) (m .slot) (made-opens m) (m .after (f .filled .live));
       tag-is = f .filled .reads .tag-is;
+      stored = f .filled .stored;
       content-is = filled-content t (m .slot) (tagOf e) (refOf e) (contentOf e) (f .at) (f .filled);
     }
 
@@ -119,7 +127,7 @@ removed-absent s capacity tag ref t e =
       | inr d ↦ d (m .only p (named-before s capacity (remove tag ref) t m tag ref p d n))
     ])
 
--- every other pair is as before: absent, or in the same slot with the same tag and the same bytes
+-- every other pair is as before: absent, or in the same slot with the same tag, stored or not as it was, and with the same bytes
 pub others-kept : (s : List ℕ) (capacity : ℕ) (e : Edit) (t : List ℕ) → Typed (edit e) → edited capacity e s ≡ granted t
     → (tag ref : ℕ) → OtherPair e tag ref → PairKept s t tag ref
 others-kept s capacity e t y g = pair-kept s capacity e t (made s capacity e t y g)

@@ -5,16 +5,16 @@ use mathlib.Core.Logic.{_⊎_, inl, inr}
 use mathlib.Core.List.{List, [], _∷_, _++_}
 use native.Mathlib.Omega.{arith}
 use lib.ListN.{length, length-append}
-use borrow.Author.Tests.{ne-eqb}
 use Rattle.wire.specs.Numbers.{bytes, part, Bytes}
 use Rattle.wire.proofs.Numbers.{Same, Holds, length-bytes, be-holds}
-use Rattle.directory.specs.Limits.{most-bytes, free-tag, lone-tag}
+use Rattle.directory.specs.Limits.{most-bytes, free-tag}
 use Rattle.directory.specs.Blocks.{blockEnd}
 use Rattle.directory.specs.Slots.{tagAt, refAt, offsetAt, baseTag, sizeAt, contentAt, slotPlaces}
 use Rattle.directory.specs.Opening.{openOf}
 use Rattle.answer.specs.Search.{In}
-use Rattle.directory.specs.Rules.{Live, ElementKept, Clashing, Kept}
-use Rattle.answer.proofs.Tests.{on-false, same?}
+use Rattle.directory.specs.Rules.{Live, IsStored, ElementKept, Clashing, Kept}
+use Rattle.answer.proofs.Tests.{same?}
+use Rattle.directory.proofs.Slots.{size-stored}
 use Rattle.journal.specs.Outcomes.{granted}
 use Rattle.journal.specs.Trailers.{trailer-size}
 use Rattle.journal.specs.Undos.{undoOf}
@@ -61,6 +61,7 @@ pub record Filled (t : List ℕ) (q tag ref : ℕ) (content : List ℕ) (at : �
   pub reads : SlotIs t q tag ref (dataOffset content at) (length content)
   pub live : Live t q
   pub base-is : baseTag (tagAt t q) ≡ tag
+  pub stored : IsStored t q
   pub size-is : sizeAt t q ≡ length content
   pub offset-is : 0 < length content → offsetAt t q ≡ at
   pub held : Holds t at content
@@ -68,15 +69,17 @@ pub record Filled (t : List ℕ) (q tag ref : ℕ) (content : List ℕ) (at : �
 
 filled : (t : List ℕ) (q tag ref : ℕ) (content : List ℕ) (at : ℕ) → Taken tag → tag < 65536 → ref < 65536 → at + length content < 256 ^ 4
     → Holds t q (dataSlot tag ref content at) → Holds t at content → at + length content ≤ length t → Filled t q tag ref content at
-unfolding dataSlot sizeAt
+unfolding dataSlot
 filled t q tag ref content at taken b₁ b₂ b₃ h held inside =
     let r = slot-reads t q tag ref (dataOffset content at) (length content) b₁ b₂ (omega (arith, offset-le content at)) (omega arith) h in
     let base : baseTag (tagAt t q) ≡ tag = rw (r .tag-is) (taken .base) in
+    let stored : IsStored t q = λ u. omega (arith, u .offset, r .offset-is, offset-le content at) in
     record {
       reads = r;
       live = λ e. taken .not-free (sym (r .tag-is) ∙ e);
       base-is = base;
-      size-is = on-false _ _ _ (ne-eqb _ lone-tag (λ e. taken .not-lone (sym base ∙ e))) ∙ r .length-is;
+      stored = stored;
+      size-is = size-stored t q (λ e. taken .not-lone (sym base ∙ e)) stored ∙ r .length-is;
       offset-is = λ z. r .offset-is ∙ offset-full content at (λ e. omega arith);
       held = held;
       inside = inside;

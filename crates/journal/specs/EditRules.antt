@@ -1,7 +1,7 @@
 -- What an edit leaves in the file after it, as a reader finds it, after document 01, "Edits and the trailer". Assumes nothing.
 use Prim.Native.Nat.{ℕ, _+_, _<_, _≤_}
 use mathlib.Core.Path.{_≡_}
-use mathlib.Core.Logic.{_⊎_}
+use mathlib.Core.Logic.{_↔_, _⊎_}
 use mathlib.Core.List.{List, [], _∷_, _++_}
 use lib.ListN.{length, getD}
 use Rattle.wire.specs.Numbers.{part}
@@ -11,7 +11,7 @@ use Rattle.answer.specs.Search.{Hit, hit, miss, In}
 use Rattle.directory.specs.Blocks.{nextBlock, blocksOf}
 use Rattle.directory.specs.Slots.{tagAt, refAt, offsetAt, lengthAt, baseTag, contentAt, slotsOf}
 use Rattle.directory.specs.Lookup.{findOf}
-use Rattle.directory.specs.Rules.{Live}
+use Rattle.directory.specs.Rules.{Live, Unstored, IsStored}
 use Rattle.directory.specs.Named.{Named}
 use Rattle.journal.specs.Trailers.{trailer-size}
 use Rattle.journal.specs.Edits.{block-size, firstFree}
@@ -25,13 +25,15 @@ pub record ReadsBack (t : List ℕ) (tag ref : ℕ) (content : List ℕ) : Type 
   pub slot : ℕ
   pub found : findOf t tag ref ≡ grant (slot ∷ [])
   pub tag-is : tagAt t slot ≡ tag
+  pub stored : IsStored t slot
   pub content-is : contentAt t slot ≡ content
 
--- a pair that is absent from s is absent from t; one that is present stands in the same slot, with the same tag and the same bytes
+-- a pair that is absent from s is absent from t; one that is present stands in the same slot, with the same tag, stored or not as before, and with the
+-- same bytes
 pub record PairKept (s t : List ℕ) (tag ref : ℕ) : Type 0 where
   pub absent : findOf s tag ref ≡ refuse 1 ABSENT 0 → findOf t tag ref ≡ refuse 1 ABSENT 0
   pub found : (p : ℕ) → findOf s tag ref ≡ grant (p ∷ [])
-      → (findOf t tag ref ≡ grant (p ∷ [])) × (tagAt t p ≡ tagAt s p) × (contentAt t p ≡ contentAt s p)
+      → (findOf t tag ref ≡ grant (p ∷ [])) × (tagAt t p ≡ tagAt s p) × (Unstored t p ↔ Unstored s p) × (contentAt t p ≡ contentAt s p)
 
 -- the pair that an edit names
 abbrev pub tagOf : Edit → ℕ

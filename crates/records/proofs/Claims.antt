@@ -7,17 +7,21 @@ use mathlib.Core.Bool.{false}
 use mathlib.Core.List.{List, [], _∷_, _++_}
 use lib.ListN.{length, getD}
 use borrow.Author.Tests.{le-leb}
-use Rattle.wire.specs.Numbers.{be, Bytes}
-use Rattle.answer.specs.Answer.{grant}
+use Rattle.wire.specs.Numbers.{be, part, Bytes}
+use Rattle.answer.specs.Answer.{Answer, grant}
 use Rattle.answer.specs.Search.{hit, In}
 use Rattle.directory.specs.Slots.{contentAt}
 use Rattle.directory.specs.Opening.{openOf}
 use Rattle.directory.specs.Lookup.{find}
 use Rattle.answer.proofs.Tests.{and-both}
-use Rattle.storage.specs.Elements.{extendedAt}
+use Rattle.directory.specs.Before.{OpenedBefore}
+use Rattle.storage.specs.Elements.{extendedAt, plainOnly, onPlain}
+use Rattle.storage.specs.Before.{elementBefore}
+use Rattle.storage.proofs.UnstoredClaims.{element-as-before}
+use Rattle.storage.proofs.Elements.{content-stored}
 use Rattle.records.specs.Limits.{number-type-tag, array-tag}
 use Rattle.wire.specs.Layouts.{read, extent, numbers, pack, given, Small, Fits}
-use Rattle.records.specs.Readings.{recordBytes}
+use Rattle.records.specs.Readings.{soundIn, recordAt, recordBytes}
 use Rattle.records.specs.Packings.{PacksBack}
 use Rattle.records.specs.NumberTypes.{numberType, numberTypeValues, numberTypeFault, numberTypeAt, numberTypeOf, numberTypeBytes}
 use Rattle.records.specs.Dimensions.{dimension, dimensionValues, dimensionFault, dimensionAt, dimensionOf, dimensionBytes, dimensionPackFault}
@@ -33,6 +37,16 @@ use Rattle.records.proofs.NumberTypes
 use Rattle.records.proofs.Dimensions
 use Rattle.records.proofs.Arrays
 use Rattle.records.proofs.Types.{row-none}
+
+-- ---- Files that opened before request (vii)
+
+-- a record is read from what the pair named, by the definitions from before: a record of any kind, whatever its rules and its values are
+pub record-as-before : (k : ℕ) (s bs : List ℕ) → OpenedBefore s bs → (tag ref : ℕ) (fault : List ℕ → ℕ) (answer : ℕ → List ℕ → Answer)
+    → recordAt k s (find s tag ref) fault answer
+    ≡ onPlain k (λ p offset size. answer offset (part s offset size)) (soundIn fault s (plainOnly (elementBefore s (find s tag ref))))
+unfolding recordAt
+record-as-before k s bs before tag ref fault answer =
+    ap (λ x. onPlain k (λ p offset size. answer offset (part s offset size)) (soundIn fault s (plainOnly x))) (element-as-before s bs before tag ref)
 
 -- ---- Number types
 
@@ -55,7 +69,8 @@ module _ (x : NumberType) (version : x .version < 256) (code : x .code < 256) (w
       → contentAt s p ≡ numberTypeBytes x → numberTypeOf s ref ≡ grant (numberTypeValues x)
   unfolding numberTypeOf numberTypeAt numberTypeBytes given
   number-type-reads s ref p opens found plain is =
-      content-passes 4 s number-type-tag ref numberTypeFault _ p opens found plain (NumberTypes.four-bytes _ (ap length is ∙ NumberTypes.length-number-type x)) .answers
+      let long : length (contentAt s p) ≡ 4 = ap length is ∙ NumberTypes.length-number-type x in
+      content-passes 4 s number-type-tag ref numberTypeFault _ p opens found (content-stored s p (omega arith)) plain (NumberTypes.four-bytes _ long) .answers
       ∙ ap (λ y. grant (numberTypeValues y)) (packed-whole numberType (numberTypeValues x) number-type-fits _ is .read-is)
 
 -- ---- Dimensions
@@ -85,7 +100,8 @@ module _ (d : Dimension) (sound : dimensionPackFault d ≡ 0) (x : d .x < 256 ^ 
   dimension-reads s tag ref p opens found plain is =
       let r = packed-whole dimension (dimensionValues d) dimension-fits _ is .read-is in
       let interlace : be 2 (contentAt s p) 14 ≤ 2 = rw (ap (λ y. y .interlace) r) (Dimensions.pack-sound d sound) in
-      content-passes 8 s tag ref dimensionFault _ p opens found plain (Dimensions.whole-bytes _ (ap length is ∙ Dimensions.length-dimension d) interlace) .answers
+      let long : length (contentAt s p) ≡ 20 = ap length is ∙ Dimensions.length-dimension d in
+      content-passes 8 s tag ref dimensionFault _ p opens found (content-stored s p (omega arith)) plain (Dimensions.whole-bytes _ long interlace) .answers
       ∙ ap (λ y. grant (dimensionValues y)) r
 
 -- ---- Arrays
@@ -117,7 +133,7 @@ module _ (sizes pairs : List ℕ) (sound : arrayPackFault (length sizes) (length
       let rank = Arrays.rank-of sizes pairs (h .2) e are in
       let whole : length e ≡ 6 + 8 * be 2 e 0 = rw rank (ap length is ∙ Arrays.length-array sizes pairs (h .2)) in
       let pairs-room : 2 * (length sizes + 1) ≤ b = omega arith in
-      let g = content-passes 1 s array-tag ref arrayFault _ p opens found plain (Arrays.whole-bytes e whole (omega arith)) in (
+      let g = content-passes 1 s array-tag ref arrayFault _ p opens found (content-stored s p (omega arith)) plain (Arrays.whole-bytes e whole (omega arith)) in (
         g .answers
             ∙ rw rank (inRoom-enough 1 _ _ (and-both _ _ (le-leb _ _ sizes-fit) (le-leb _ _ pairs-room))),
         rw (g .bytes) (Arrays.sizes-of sizes pairs (h .2) e are),

@@ -20,6 +20,7 @@ use Rattle.wire.specs.Layouts.{Layout, extent, numbers, pack}
 use Rattle.wire.proofs.Numbers.{bytes-part, put-front}
 use Rattle.wire.proofs.Layouts.{pack-whole}
 use Rattle.directory.specs.Slots.{sizeAt, contentAt}
+use Rattle.directory.specs.Rules.{IsStored}
 use Rattle.directory.specs.Opening.{openOf}
 use Rattle.directory.specs.Lookup.{find}
 use Rattle.directory.proofs.Opens.{opened-goes, opened-passed}
@@ -109,8 +110,9 @@ reads-positive s found l is x e r taken z = located-positive (elementAt s found)
 pub reads-bytes : (s : List ℕ) (found : Hit) (l : Located) → l ≡ locatedAt s found → (p o n : ℕ) → l ≡ Plain p o n → recordBytes s found ≡ part s o n
 reads-bytes s found l is p o n e = ap (bytesAt s) (sym is ∙ e)
 
-pub plain-bytes : (s : List ℕ) (tag ref p : ℕ) → find s tag ref ≡ hit p → extendedAt s p ≡ false → recordBytes s (find s tag ref) ≡ contentAt s p
-plain-bytes s tag ref p found plain = ap (λ x. bytesAt s (plainOnly x)) (ap (elementAt s) found ∙ element-plain s p plain) ∙ sym (content-part s p)
+pub plain-bytes : (s : List ℕ) (tag ref p : ℕ) → find s tag ref ≡ hit p → IsStored s p → extendedAt s p ≡ false
+    → recordBytes s (find s tag ref) ≡ contentAt s p
+plain-bytes s tag ref p found stored plain = ap (λ x. bytesAt s (plainOnly x)) (ap (elementAt s) found ∙ element-plain s p stored plain) ∙ sym (content-part s p)
 
 -- what is put into a lent list
 pub reads-list : (answer : Answer) (list lent : List ℕ) (values : List ℕ) → answer ≡ grant values → length list ≤ length lent → (after : List ℕ) → after ≡ sets lent 0 list
@@ -129,16 +131,16 @@ module _ (k : ℕ) (s : List ℕ) (tag ref : ℕ) (fault : List ℕ → ℕ) (an
     pub bytes : recordBytes s (find s tag ref) ≡ contentAt s p
 
   -- a plain element whose bytes break no rule of the record is read
-  pub content-passes : (p : ℕ) → openOf s .number ≡ 0 → find s tag ref ≡ hit p → extendedAt s p ≡ false → fault (contentAt s p) ≡ 0 → Granted p
+  pub content-passes : (p : ℕ) → openOf s .number ≡ 0 → find s tag ref ≡ hit p → IsStored s p → extendedAt s p ≡ false → fault (contentAt s p) ≡ 0 → Granted p
   unfolding recordAt
-  content-passes p opens found plain sound =
-      let f = found-plain s tag ref p (startAt s p) (sizeAt s p) opens (ap (elementAt s) found ∙ element-plain s p plain) in
+  content-passes p opens found stored plain sound =
+      let f = found-plain s tag ref p (startAt s p) (sizeAt s p) opens (ap (elementAt s) found ∙ element-plain s p stored plain) in
       let l : locatedAt s (find s tag ref) ≡ Plain p (startAt s p) (sizeAt s p) = ap plainOnly (f .is) in
       record {
         found = f;
         sound = sound;
         answers = opened-goes k s _ opens ∙ reads-passed k s (find s tag ref) fault answer _ refl p _ _ l (contentAt s p) (sym (f .content)) sound;
-        bytes = plain-bytes s tag ref p found plain;
+        bytes = plain-bytes s tag ref p found stored plain;
       }
 
   pub record-granted : recordOf k s tag ref fault answer .number ≡ 0 → (p : ℕ) × Granted p
@@ -148,7 +150,7 @@ module _ (k : ℕ) (s : List ℕ) (tag ref : ℕ) (fault : List ℕ → ℕ) (an
       let q = ap (λ a. a .number) (sym (opened-goes k s (recordAt k s (find s tag ref) fault answer) opens)) ∙ e in
       let h = passed (soundIn fault s (locatedAt s (find s tag ref))) refl q in
       let f = found-plain s tag ref (h .0) (h .1) (h .2) opens (located-element _ _ _ _ (h .3 .0)) in
-      (h .0, content-passes (h .0) opens (f .found) (f .plain) (ap fault (sym (f .content)) ∙ h .3 .1))
+      (h .0, content-passes (h .0) opens (f .found) (f .stored) (f .plain) (ap fault (sym (f .content)) ∙ h .3 .1))
     where
       passed : (l : Located) → soundIn fault s (locatedAt s (find s tag ref)) ≡ l → onPlain k (λ p offset size. answer offset (part s offset size)) l .number ≡ 0
           → (p : ℕ) × (o : ℕ) × (n : ℕ) × ((locatedAt s (find s tag ref) ≡ Plain p o n) × (fault (part s o n) ≡ 0))

@@ -2,6 +2,7 @@
 -- exactly if the first rule that is broken has them. And what a granted reading tells, each field at its place among the record's bytes. Assumes
 -- nothing.
 use Prim.Native.Nat.{ℕ, _+_, _*_, _<_, _≤_}
+use native.Mathlib.Omega.{arith}
 use mathlib.Core.Path.{_≡_, refl, sym, ap, _∙_}
 use mathlib.Core.Logic.{_↔_}
 use mathlib.Core.List.{List, [], _∷_}
@@ -17,6 +18,7 @@ use Rattle.answer.proofs.Answer.{inRoom-passed}
 use Rattle.wire.specs.Layouts.{read, extent}
 use Rattle.wire.proofs.Layouts.{length-numbersAt, number-at}
 use Rattle.directory.specs.Lookup.{find}
+use Rattle.directory.specs.Named.{NamedUnstored}
 use Rattle.records.specs.NumberTypes.{numberType, numberTypeFault, numberTypeAt, numberTypeOf}
 use Rattle.records.specs.Dimensions.{dimension, dimensionFault, dimensionAt, dimensionOf}
 use Rattle.records.specs.Arrays.{array, arrayFault, arraySizes, arrayPairs, arrayAt, arrayOf}
@@ -24,7 +26,7 @@ use Rattle.records.specs.Readings.{exactly, recordBytes}
 use Rattle.records.specs.RecordRules.{numberTypeRules, dimensionRules, arrayRules}
 use Rattle.records.proofs.Arrays.{extent-array}
 use Rattle.records.proofs.Readings.{record-granted}
-use Rattle.records.proofs.RecordRules.{By, by-exactly, by-done, by-must, by-rest, by-room, by-record}
+use Rattle.records.proofs.RecordRules.{By, by-exactly, by-unstored, by-done, by-must, by-rest, by-room, by-record}
 
 -- ---- Number types
 
@@ -46,6 +48,10 @@ module _ (s : List ℕ) (ref : ℕ) where
 
   pub number-type-refused : (n p : ℕ) → ((numberTypeOf s ref ≡ refuse 4 n p) × (n ≡ 0 → ⊥)) ↔ FirstBroken (numberTypeRules s ref) n p
   number-type-refused = by-exactly 4 _ _ number-type-by .1
+
+  -- 29 exactly if it is named and not stored yet
+  pub number-type-unstored : (p : ℕ) → (numberTypeOf s ref ≡ refuse 4 29 p) ↔ NamedUnstored s 106 ref p
+  number-type-unstored = by-unstored 4 _ s 106 ref _ number-type-by (omega arith, tt)
 
   -- version, type, width and class, from bytes 0, 1, 2 and 3
   pub number-type-fields : numberTypeOf s ref .number ≡ 0
@@ -86,6 +92,9 @@ module _ (s : List ℕ) (tag ref : ℕ) where
 
   pub dimension-refused : (n p : ℕ) → ((dimensionOf s tag ref ≡ refuse 8 n p) × (n ≡ 0 → ⊥)) ↔ FirstBroken (dimensionRules s tag ref) n p
   dimension-refused = by-exactly 8 _ _ dimension-by .1
+
+  pub dimension-unstored : (p : ℕ) → (dimensionOf s tag ref ≡ refuse 8 29 p) ↔ NamedUnstored s tag ref p
+  dimension-unstored = by-unstored 8 _ s tag ref _ dimension-by (omega arith, (omega arith, tt))
 
   -- x from byte 0, y from 4, type tag from 8, type reference from 10, elements from 12, interlace from 14, compression tag from 16, compression
   -- reference from 18
@@ -131,6 +140,9 @@ module _ (s : List ℕ) (ref sizes pairs : ℕ) where
 
   pub array-refused : (n p : ℕ) → ((arrayOf s ref sizes pairs ≡ refuse 1 n p) × (n ≡ 0 → ⊥)) ↔ FirstBroken (arrayRules s ref sizes pairs) n p
   array-refused = by-exactly 1 _ _ array-by .1
+
+  pub array-unstored : (p : ℕ) → (arrayOf s ref sizes pairs ≡ refuse 1 29 p) ↔ NamedUnstored s 701 ref p
+  array-unstored = by-unstored 1 _ s 701 ref _ array-by (omega arith, (omega arith, (omega arith, tt)))
 
   -- the rank from byte 0, so many sizes from 2 on, and after them tag and reference of one pair more
   pub array-fields : arrayOf s ref sizes pairs .number ≡ 0

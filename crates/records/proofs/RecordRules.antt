@@ -11,16 +11,21 @@ use Rattle.answer.specs.Answer.{Answer, refuse, unlessWith, unless, inRoom}
 use Rattle.answer.specs.Search.{Hit, hit, miss, must}
 use Rattle.answer.specs.Rules.{Rules, done, rule, AllHold, FirstBroken}
 use Rattle.answer.specs.declared.Refusal.{Refusal}
-use Rattle.answer.proofs.Tests.{test, same?, not-both}
-use Rattle.answer.proofs.Rules.{Goes, goes-done, goes-rule, exactly}
+use Rattle.answer.proofs.Tests.{same?, by-test, not-both}
+use Rattle.answer.proofs.Rules.{Goes, goes-done, goes-rule, exactly, Below, broken-below}
 use Rattle.answer.proofs.Answer.{unless-passes, unless-stops, refusal-is}
 use Rattle.directory.specs.Slots.{tagAt}
 use Rattle.directory.specs.Opening.{openOf, opened}
 use Rattle.directory.specs.Lookup.{find}
+use Rattle.directory.specs.Rules.{Unstored}
+use Rattle.directory.specs.Named.{Named, NamedUnstored}
+use Rattle.directory.proofs.Slots.{unstored-is}
+use Rattle.directory.proofs.Faults.{open-below}
+use Rattle.directory.proofs.Named.{found-named, named-found}
 use Rattle.directory.proofs.Opens.{opened-goes, opened-stops}
-use Rattle.storage.specs.Elements.{extendedAt, elementAt, plainOnly, locatedAt, refusalIn}
+use Rattle.storage.specs.Elements.{elementAt, plainOnly, locatedAt, refusalIn}
 use Rattle.storage.specs.declared.element.Located.the-variants as located
-use Rattle.storage.proofs.Elements.{plain-tag, element-plain, element-extended, located-positive}
+use Rattle.storage.proofs.Elements.{plain-tag, unstored, plain, extended, kind-at, located-positive}
 use Rattle.records.specs.Readings.{recordAt, recordOf, recordBytes}
 use Rattle.directory.specs.Faults.{openedRules}
 use Rattle.records.specs.RecordRules.{slotIn, plainRules, recordRules}
@@ -38,14 +43,45 @@ module _ (Granted : Type 0) (Refused : ℕ → ℕ → Type 0) (s : List ℕ) (r
       goes-rule _ _ 11 0 _ _ (inr (λ h. none (h .0) (h .1))) (λ z. refused _ refl) (λ h. absurd (none (h .0) (h .1)))
   goes-plain (hit p) refused stands =
       goes-rule _ _ 11 0 _ _ (inl (p, refl)) (λ z. absurd (z (p, refl)))
-      (λ found. elim (test (extendedAt s p)) [
-        | inl x ↦
+      (λ found. elim (kind-at s p) [
+        | unstored u e ↦ goes-rule _ _ 29 p _ _ (inr (λ h. h u)) (λ y. refused _ (ap plainOnly e)) (λ h. absurd (h u))
+        | extended k x e ↦
             let z : ((tagAt s p < 16384) ⊎ (32767 < tagAt s p)) → ⊥ = λ h. not-both _ (plain-tag s p .1 h) x in
-            goes-rule _ _ 12 p _ _ (inr z) (λ y. refused _ (ap plainOnly (element-extended s p x))) (λ h. absurd (z h))
-        | inr x ↦
+            goes-rule _ _ 29 p _ _ (inl k) (λ y. absurd (y k))
+            (λ y. goes-rule _ _ 12 p _ _ (inr z) (λ y. refused _ (ap plainOnly e)) (λ h. absurd (z h)))
+        | plain k x e ↦
             let h = plain-tag s p .0 x in
-            goes-rule _ _ 12 p _ _ (inl h) (λ z. absurd (z h)) (λ y. stands _ _ (ap plainOnly (element-plain s p x)))
+            goes-rule _ _ 29 p _ _ (inl k) (λ y. absurd (y k))
+            (λ y. goes-rule _ _ 12 p _ _ (inl h) (λ z. absurd (z h)) (λ y. stands _ _ (ap plainOnly e)))
       ])
+
+-- ---- 29
+
+-- it is answered exactly if the element is not stored yet, where no rule after these has that number
+module _ (s : List ℕ) (tag ref p : ℕ) where
+  pub first-unstored : openOf s .number ≡ 0 → (rest : Rules) → Below 29 rest → FirstBroken (plainRules s (find s tag ref) rest) 29 p ↔ (Named s tag ref p × Unstored s p)
+  first-unstored opens rest below = (
+    (λ b. elim b [
+      | inl x ↦ absurd (omega (arith, x .0))
+      | inr ((q, f), inl (e, at, z)) ↦
+          let same : p ≡ q = at ∙ ap slotIn f in
+          let u : Unstored s p = elim (by-test _ _ (unstored-is s p)) [ inl u ↦ u | inr h ↦ absurd (z (rw at at h)) ] in
+          (rw same (found-named s tag ref q f), u)
+      | inr (f, inr (h, inl x)) ↦ absurd (omega (arith, x .0))
+      | inr (f, inr (h, inr (t, x))) ↦ absurd (omega (arith, broken-below 29 29 p rest below x))
+    ]),
+    (λ h. let f = named-found s tag ref p opens (h .0) in
+        inr ((p, f), inl (refl, sym (ap slotIn f), λ k. rw (ap slotIn f) at k (h .1)))),
+  )
+
+  pub opened-unstored : (rest : Rules) → Below 29 rest → FirstBroken (openedRules s (plainRules s (find s tag ref) rest)) 29 p ↔ NamedUnstored s tag ref p
+  opened-unstored rest below = (
+    (λ b. elim b [
+      | inl x ↦ absurd (omega (arith, open-below s, x .0))
+      | inr (opens, x) ↦ let h = first-unstored opens rest below .0 x in (opens, h .0, h .1)
+    ]),
+    (λ h. inr (h .0, first-unstored (h .0) rest below .1 (h .1, h .2))),
+  )
 
 -- ---- Answers by rules
 
@@ -60,6 +96,14 @@ pub by-exactly : (k : ℕ) (R : Rules) (a : Answer) → By k R a → ((a .number
 by-exactly k R a g =
     exactly _ _ R g (λ z n p r. r .1 (ap (λ x. x .number) (sym (r .0)) ∙ z))
     (λ n p m q x y. let e = sym (y .0) ∙ x .0 in (ap (λ w. w .number) e, ap (λ w. w .place) e))
+
+-- a call that goes by the rules of an element and others answers 29 so
+pub by-unstored : (k : ℕ) (a : Answer) (s : List ℕ) (tag ref : ℕ) (rest : Rules) → By k (openedRules s (plainRules s (find s tag ref) rest)) a → Below 29 rest
+    → (p : ℕ) → (a ≡ refuse k 29 p) ↔ NamedUnstored s tag ref p
+by-unstored k a s tag ref rest by below p =
+    let first = by-exactly k _ a by .1 29 p in
+    let unstored = opened-unstored s tag ref p rest below in
+    ((λ e. unstored .0 (first .0 (e, suc-ne-zero 28))), (λ h. first .1 (unstored .1 h) .0))
 
 module _ (k : ℕ) where
   pub by-same : (R : Rules) (a b : Answer) → a ≡ b → By k R b → By k R a

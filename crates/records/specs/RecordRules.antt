@@ -1,5 +1,5 @@
--- The rules of reading a record in the order in which they are judged, as facts about its bytes, after document 01, "Records". The numbers
--- are the paper's own. Assumes nothing.
+-- The rules of reading a record in the order in which they are judged, as facts about its bytes, after document 01, "Records", and request
+-- (vii) of document 02. The numbers are the papers' own. Assumes nothing.
 use Prim.Native.Nat.{ℕ, _+_, _*_, _<_, _≤_}
 use mathlib.Core.Path.{_≡_}
 use mathlib.Core.Logic.{_⊎_}
@@ -9,6 +9,7 @@ use Rattle.answer.specs.Search.{Hit, hit, miss}
 use Rattle.answer.specs.Rules.{Rules, done, rule}
 use Rattle.wire.specs.Numbers.{be}
 use Rattle.directory.specs.Slots.{tagAt}
+use Rattle.directory.specs.Rules.{IsStored}
 use Rattle.directory.specs.Faults.{openedRules}
 use Rattle.directory.specs.Lookup.{find}
 use Rattle.records.specs.Readings.{recordBytes}
@@ -20,13 +21,14 @@ abbrev pub slotIn : Hit → ℕ
 slotIn (hit p) = p
 slotIn miss = 0
 
--- the element is there, in plain storage
+-- the element is there, stored, in plain storage
 abbrev pub plainRules : List ℕ → Hit → Rules → Rules
 plainRules s found rest =
     let p = slotIn found in
     rule 11 0 ((q : ℕ) × (found ≡ hit q))
+    (rule 29 p (IsStored s p)
     (rule 12 p ((tagAt s p < 16384) ⊎ (32767 < tagAt s p))
-    rest)
+    rest))
 
 -- in an image that opens, and then what is asked of the bytes of the element at its slot
 abbrev pub recordRules : List ℕ → ℕ → ℕ → (ℕ → List ℕ → Rules) → Rules

@@ -17,7 +17,7 @@ use Rattle.storage.specs.declared.element.Element.{Element}
 
 -- where both images open
 module _ (s t : List ℕ) (tag ref : ℕ) (sound : openOf s .number ≡ 0) (other : openOf t .number ≡ 0) (x : Element) (e : elementAt s (find s tag ref) ≡ x) where
-  choose-goes : chooseOf s t tag ref ≡ chooseFound x (elementAt t (find t tag ref))
+  pub choose-goes : chooseOf s t tag ref ≡ chooseFound x (elementAt t (find t tag ref))
   unfolding chooseOf
   choose-goes =
       let found : Answer = chooseFound (elementAt s (find s tag ref)) (elementAt t (find t tag ref)) in

@@ -14,6 +14,7 @@ use Rattle.answer.proofs.Tests.{same?}
 use Rattle.answer.proofs.Lent
 use Rattle.directory.specs.Slots.{sizeAt, contentAt}
 use Rattle.directory.specs.Opening.{openOf}
+use Rattle.directory.specs.Rules.{IsStored}
 use Rattle.directory.specs.Named.{Named}
 use Rattle.directory.proofs.Opens.{opened-goes, opened-stops}
 use Rattle.storage.specs.Elements.{extendedAt, startAt}
@@ -35,17 +36,17 @@ use Rattle.storage.proofs.Given.{chain-given, chain-complete}
 -- ---- View
 
 -- an element in plain storage: where it stands, and its bytes
-pub view-plain : (s : List ℕ) (tag ref p : ℕ) → openOf s .number ≡ 0 → Named s tag ref p → extendedAt s p ≡ false
+pub view-plain : (s : List ℕ) (tag ref p : ℕ) → openOf s .number ≡ 0 → Named s tag ref p → IsStored s p → extendedAt s p ≡ false
     → (viewOf s tag ref ≡ grant (startAt s p ∷ sizeAt s p ∷ [])) × (bytesOf s (viewOf s tag ref) ≡ contentAt s p)
-view-plain s tag ref p opens named e =
-    let v = Views.view-goes s tag ref opens _ (named-plain s tag ref p opens named e) in
+view-plain s tag ref p opens named stored e =
+    let v = Views.view-goes s tag ref opens _ (named-plain s tag ref p opens named stored e) in
     (v, Views.bytes-granted s (viewOf s tag ref) (startAt s p) (sizeAt s p) v ∙ sym (content-part s p))
 
 -- an extended element is refused at its slot: a view never gives its record
-pub view-extended : (s : List ℕ) (tag ref p : ℕ) → openOf s .number ≡ 0 → Named s tag ref p → extendedAt s p ≡ true
+pub view-extended : (s : List ℕ) (tag ref p : ℕ) → openOf s .number ≡ 0 → Named s tag ref p → IsStored s p → extendedAt s p ≡ true
     → (viewOf s tag ref ≡ refuse 2 STORAGE p) × (bytesOf s (viewOf s tag ref) ≡ [])
-view-extended s tag ref p opens named e =
-    let v = Views.view-goes s tag ref opens _ (named-extended s tag ref p opens named e) in
+view-extended s tag ref p opens named stored e =
+    let v = Views.view-goes s tag ref opens _ (named-extended s tag ref p opens named stored e) in
     (v, Views.bytes-refused s (viewOf s tag ref) (record { number = STORAGE; place = p }) v)
 
 pub view-absent : (s : List ℕ) (tag ref : ℕ) → openOf s .number ≡ 0 → ((p : ℕ) → Named s tag ref p → ⊥) → viewOf s tag ref ≡ refuse 2 ABSENT 0
@@ -98,7 +99,7 @@ copy-linked s tag ref p room named e granted =
     let d = descriptionOf s (contentAt s p) in
     let x = inBlocks s (contentAt s p) in
     let g = Copies.granted-copy s tag ref room granted in
-    let f = named-extended s tag ref p (g .1 .sound) named e in
+    let f = named-extended s tag ref p (g .1 .sound) named (Copies.copied-stored s tag ref p room named granted) e in
     let is = Copies.copy-goes s tag ref (g .1 .sound) _ f room in
     let h = Copies.copy-passed room p x (ap (λ a. a .number) (sym is) ∙ granted) in
     let long = description-length (contentAt s p) s in
@@ -109,9 +110,9 @@ copy-linked s tag ref p room named e granted =
       (c .0, c .1, Copies.bytes-found s tag ref (g .1 .sound) _ f ∙ c .2),
     )
 
-module _ (s : List ℕ) (tag ref p room : ℕ) (opens : openOf s .number ≡ 0) (named : Named s tag ref p) (extended : extendedAt s p ≡ true) where
+module _ (s : List ℕ) (tag ref p room : ℕ) (opens : openOf s .number ≡ 0) (named : Named s tag ref p) (stored : IsStored s p) (extended : extendedAt s p ≡ true) where
   linked-is : copyOf s tag ref room ≡ copyAt room p (inBlocks s (contentAt s p))
-  linked-is = Copies.copy-goes s tag ref opens _ (named-extended s tag ref p opens named extended) room
+  linked-is = Copies.copy-goes s tag ref opens _ (named-extended s tag ref p opens named stored extended) room
 
   -- it is copied exactly if its record keeps the rules, the buffer is long enough, and there are tables whose blocks give all its bytes
   pub copy-linked-exactly : let d = descriptionOf s (contentAt s p) in
@@ -170,11 +171,11 @@ copy-rest s tag ref n out e =
     )
 
 -- an answer has an index for the faults of tables and blocks alone, granted or refused
-pub copy-index : (s : List ℕ) (tag ref room : ℕ) → copyOf s tag ref room .number < 23 → getD (copyOf s tag ref room .values) 1 0 ≡ 0
-copy-index s tag ref room early =
+pub copy-index : (s : List ℕ) (tag ref room : ℕ) → (copyOf s tag ref room .number < 23) ⊎ (27 < copyOf s tag ref room .number) → getD (copyOf s tag ref room .values) 1 0 ≡ 0
+copy-index s tag ref room other =
     elim (same? (copyOf s tag ref room .number) 0) [
       | inl e ↦ let g = Copies.granted-copy s tag ref room e in ap (λ a. getD (a .values) 1 0) (g .1 .answers)
-      | inr z ↦ ap (λ values. getD values 1 0) (CopyRules.copy-shape s tag ref room .refused z) ∙ CopyRules.index-early (copyOf s tag ref room) early
+      | inr z ↦ ap (λ values. getD values 1 0) (CopyRules.copy-shape s tag ref room .refused z) ∙ CopyRules.index-none (copyOf s tag ref room) other
     ]
 
 -- a copy that is refused changes nothing
@@ -196,27 +197,27 @@ choose-fallback-unopened s t tag ref opens closed = opened-goes 3 s _ opens ∙ 
 module _ (s t : List ℕ) (tag ref : ℕ) (opens : openOf s .number ≡ 0) (other : openOf t .number ≡ 0) where
   -- where the current image has the element its part is given, and one that is extended does not fall through to the fallback
   module _ (p : ℕ) (named : Named s tag ref p) where
-    pub choose-current : extendedAt s p ≡ false
+    pub choose-current : IsStored s p → extendedAt s p ≡ false
         → (chooseOf s t tag ref ≡ grant (1 ∷ startAt s p ∷ sizeAt s p ∷ [])) × (chosenBytes s t (chooseOf s t tag ref) ≡ contentAt s p)
-    choose-current e =
-        let c = Choices.choose-current s t tag ref opens other _ (named-plain s tag ref p opens named e) refl in
+    choose-current stored e =
+        let c = Choices.choose-current s t tag ref opens other _ (named-plain s tag ref p opens named stored e) refl in
         (c, Choices.bytes-current s t (chooseOf s t tag ref) (startAt s p) (sizeAt s p) c ∙ sym (content-part s p))
 
-    pub choose-extended : extendedAt s p ≡ true → chooseOf s t tag ref ≡ refuse 3 STORAGE p
-    choose-extended e = Choices.choose-current s t tag ref opens other _ (named-extended s tag ref p opens named e) refl
+    pub choose-extended : IsStored s p → extendedAt s p ≡ true → chooseOf s t tag ref ≡ refuse 3 STORAGE p
+    choose-extended stored e = Choices.choose-current s t tag ref opens other _ (named-extended s tag ref p opens named stored e) refl
 
   -- where it has not, the fallback's
   module _ (none : (p : ℕ) → Named s tag ref p → ⊥) where
-    pub choose-fallback : (p : ℕ) → Named t tag ref p → extendedAt t p ≡ false
+    pub choose-fallback : (p : ℕ) → Named t tag ref p → IsStored t p → extendedAt t p ≡ false
         → (chooseOf s t tag ref ≡ grant (2 ∷ startAt t p ∷ sizeAt t p ∷ [])) × (chosenBytes s t (chooseOf s t tag ref) ≡ contentAt t p)
-    choose-fallback p named e =
-        let c = Choices.choose-fallback s t tag ref opens other _ (named-absent s tag ref none) refl _ (named-plain t tag ref p other named e) in
+    choose-fallback p named stored e =
+        let c = Choices.choose-fallback s t tag ref opens other _ (named-absent s tag ref none) refl _ (named-plain t tag ref p other named stored e) in
         (c, Choices.bytes-fallback s t (chooseOf s t tag ref) (startAt t p) (sizeAt t p) c ∙ sym (content-part t p))
 
     -- an extended element there is refused at its slot in the fallback
-    pub choose-fallback-extended : (p : ℕ) → Named t tag ref p → extendedAt t p ≡ true → chooseOf s t tag ref ≡ refuse 3 STORAGE p
-    choose-fallback-extended p named e =
-        Choices.choose-fallback s t tag ref opens other _ (named-absent s tag ref none) refl _ (named-extended t tag ref p other named e)
+    pub choose-fallback-extended : (p : ℕ) → Named t tag ref p → IsStored t p → extendedAt t p ≡ true → chooseOf s t tag ref ≡ refuse 3 STORAGE p
+    choose-fallback-extended p named stored e =
+        Choices.choose-fallback s t tag ref opens other _ (named-absent s tag ref none) refl _ (named-extended t tag ref p other named stored e)
 
     pub choose-absent : ((p : ℕ) → Named t tag ref p → ⊥) → chooseOf s t tag ref ≡ refuse 3 ABSENT 0
     choose-absent neither = Choices.choose-fallback s t tag ref opens other _ (named-absent s tag ref none) refl _ (named-absent t tag ref neither)

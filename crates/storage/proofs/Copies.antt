@@ -17,14 +17,17 @@ use Rattle.wire.proofs.Numbers.{put-front}
 use Rattle.directory.specs.Slots.{contentAt}
 use Rattle.directory.specs.Opening.{openOf}
 use Rattle.directory.specs.Lookup.{find}
+use Rattle.directory.specs.Rules.{IsStored}
+use Rattle.directory.specs.Named.{Named}
 use Rattle.directory.proofs.Opens.{opened-goes, opened-passed}
 use Rattle.storage.specs.Elements.{elementAt}
 use Rattle.storage.specs.Descriptions.{descriptionOf, recordLength, recordFault}
 use Rattle.storage.specs.Walks.{chainOf}
 use Rattle.storage.specs.Copies.{Stored, inPlace, inBlocks, copyAt, copyFound, copyOf, bytesFound, elementBytes}
 use Rattle.storage.specs.declared.element.Element.{Element}
-use Rattle.storage.specs.declared.element.Element.the-variants.{Absent, Plain, Extended}
+use Rattle.storage.specs.declared.element.Element.the-variants.{Absent, NotStored, Plain, Extended}
 use Rattle.storage.specs.declared.description.Description.{Description}
+use Rattle.storage.proofs.Named.{named-unstored}
 use Rattle.storage.proofs.Elements.{found-plain}
 use Rattle.storage.proofs.Descriptions.{description-length}
 use Rattle.storage.proofs.Walks.{chain-length}
@@ -168,9 +171,16 @@ granted-copy s tag ref room e = go (elementAt s (find s tag ref)) refl
 
     go : (x : Element) → elementAt s (find s tag ref) ≡ x → (n : ℕ) × Grants s tag ref room n
     go Absent f = absurd (suc-ne-zero 10 (ap (λ a. a .number) (sym (copy-goes s tag ref sound Absent f room)) ∙ e))
+    go (NotStored p) f = absurd (suc-ne-zero 28 (ap (λ a. a .number) (sym (copy-goes s tag ref sound _ f room)) ∙ e))
     go (Plain p offset size) f =
         found p (inPlace s offset size) (copy-goes s tag ref sound _ f room)
         (λ c. ap length (bytes-found s tag ref sound _ f) ∙ found-plain s tag ref p offset size sound f .long)
     go (Extended p) f =
         found p (inBlocks s (contentAt s p)) (copy-goes s tag ref sound _ f room)
         (λ c. ap length (bytes-found s tag ref sound _ f) ∙ chain-length s (descriptionOf s (contentAt s p)) c ∙ description-length (contentAt s p) s)
+
+-- what was copied is stored
+pub copied-stored : (s : List ℕ) (tag ref p room : ℕ) → Named s tag ref p → copyOf s tag ref room .number ≡ 0 → IsStored s p
+copied-stored s tag ref p room named done u =
+    let opens = granted-copy s tag ref room done .1 .sound in
+    suc-ne-zero 28 (ap (λ a. a .number) (sym (copy-goes s tag ref opens _ (named-unstored s tag ref p opens named u) room)) ∙ done)

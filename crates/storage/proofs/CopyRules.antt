@@ -6,11 +6,12 @@ use mathlib.Core.Path.{_≡_, refl, sym, ap, _∙_}
 use mathlib.Core.Logic.{_↔_, _⊎_, inl, inr}
 use mathlib.Core.List.{List}
 use lib.ListN.{length, getD}
+use mathlib.Core.Bool.{_&&_, and-false}
 use lib.Dec.{leb}
 use borrow.Author.Tests.{le-leb, lt-leb}
 use Rattle.answer.specs.Answer.{Answer, grant, refuse, carried, refuseCarrying, ProperWith}
 use Rattle.answer.specs.Rules.{done, rule, AllHold, FirstBroken}
-use Rattle.answer.proofs.Tests.{on-true, on-false, same?, le?}
+use Rattle.answer.proofs.Tests.{on-true, on-false, and-both, same?, le?}
 use Rattle.answer.proofs.Rules.{Goes, goes-done, goes-rule, goes-then, exactly}
 use Rattle.directory.specs.Slots.{contentAt}
 use Rattle.directory.specs.Opening.{openOf}
@@ -23,7 +24,7 @@ use Rattle.storage.specs.Walks.{chainOf}
 use Rattle.storage.specs.Links.{recordRules, copyRules, Unbroken, Broken}
 use Rattle.storage.specs.Copies.{Stored, inPlace, inBlocks, copyAt, copyOf, linkIndex}
 use Rattle.storage.specs.declared.element.Element.{Element}
-use Rattle.storage.specs.declared.element.Element.the-variants.{Absent, Plain, Extended}
+use Rattle.storage.specs.declared.element.Element.the-variants.{Absent, NotStored, Plain, Extended}
 use Rattle.storage.proofs.Descriptions
 use Rattle.storage.proofs.Copies.{by-record, by-room, by-chain, granted, copy-record, copy-small, copy-chain, copy-granted, copy-case, copy-passed, copy-goes}
 use Rattle.storage.proofs.Links.{chain-unbroken, chain-broken, broken-numbers}
@@ -51,7 +52,7 @@ module _ (s : List ℕ) (opens : openOf s .number ≡ 0) (r : List ℕ) (p room 
   -- ---- The answer
 
   -- a fault of the chain has a number past theirs
-  pub chain-numbers : (chainOf s (descriptionOf s r) .fault ≡ 0 → ⊥) → 23 ≤ chainOf s (descriptionOf s r) .fault
+  pub chain-numbers : let w = chainOf s (descriptionOf s r) in (w .fault ≡ 0 → ⊥) → (23 ≤ w .fault) × (w .fault ≤ 27)
   chain-numbers z =
       let w = chainOf s (descriptionOf s r) in
       broken-numbers s (descriptionOf s r) (w .fault) (w .index) (chain-broken s opens (descriptionOf s r) (w .fault) (w .index) .0 (refl, refl, z))
@@ -64,7 +65,7 @@ module _ (s : List ℕ) (opens : openOf s .number ≡ 0) (r : List ℕ) (p room 
         | inl z ↦ e .1 (ap (λ a. a .number) (sym (e .0) ∙ copy-granted room p (inBlocks s r) (h .0) (h .1) z))
         | inr z ↦
             let m = ap (λ a. a .number) (sym (e .0) ∙ copy-chain room p (inBlocks s r) (h .0) (h .1) z) in
-            omega (arith, m, chain-numbers z, e .2)
+            omega (arith, m, chain-numbers z .0, e .2)
       ]
 
   one : (n q m k : ℕ) → Early s r p room n q → Early s r p room m k → (m ≡ n) × (k ≡ q)
@@ -93,7 +94,7 @@ module _ (s : List ℕ) (opens : openOf s .number ≡ 0) (r : List ℕ) (p room 
       | granted sound fits c ↦ absurd (early 0 (omega arith) (ap (λ a. a .number) (copy-granted room p (inBlocks s r) sound fits c)) l)
       | by-chain sound fits z ↦ (ready .0 (sound, fits), z)
     ]),
-    (λ h. let k = ready .1 (h .0) in rw (copy-chain room p (inBlocks s r) (k .0) (k .1) (h .1)) (chain-numbers (h .1))),
+    (λ h. let k = ready .1 (h .0) in rw (copy-chain room p (inBlocks s r) (k .0) (k .1) (h .1)) (chain-numbers (h .1) .0)),
   )
     where
       early : (n : ℕ) → n < 23 → copyAt room p (inBlocks s r) .number ≡ n → 23 ≤ copyAt room p (inBlocks s r) .number → ⊥
@@ -112,7 +113,7 @@ module _ (s : List ℕ) (opens : openOf s .number ≡ 0) (r : List ℕ) (p room 
         (λ h.
             let k = ready .1 (h .0) in
             let c = chain .1 (h .1) in
-            (copy-chain room p (inBlocks s r) (k .0) (k .1) (λ q. c .2 (sym (c .0) ∙ q)) ∙ rw (c .0, c .1), broken-numbers s (descriptionOf s r) n x (h .1))),
+            (copy-chain room p (inBlocks s r) (k .0) (k .1) (λ q. c .2 (sym (c .0) ∙ q)) ∙ rw (c .0, c .1), broken-numbers s (descriptionOf s r) n x (h .1) .0)),
       )
 
   -- one of the three is so
@@ -131,40 +132,43 @@ module _ (s : List ℕ) (opens : openOf s .number ≡ 0) (r : List ℕ) (p room 
 -- ---- The shape of the answer
 
 module _ (a : Answer) where
-  pub index-early : a .number < 23 → linkIndex a ≡ 0
+  -- 23 to 27 have an index, and no other number has
+  pub index-none : (a .number < 23) ⊎ (27 < a .number) → linkIndex a ≡ 0
   unfolding linkIndex
-  index-early h = on-false (leb 23 (a .number)) _ _ (lt-leb _ _ h)
+  index-none (inl h) = on-false (leb 23 (a .number) && leb (a .number) 27) _ _ (ap (λ b. b && leb (a .number) 27) (lt-leb 23 (a .number) h))
+  index-none (inr h) = on-false (leb 23 (a .number) && leb (a .number) 27) _ _ (ap (λ b. leb 23 (a .number) && b) (lt-leb (a .number) 27 h) ∙ and-false (leb 23 (a .number)))
 
-  index-late : 23 ≤ a .number → linkIndex a ≡ getD (a .values) 1 0
+  index-some : 23 ≤ a .number → a .number ≤ 27 → linkIndex a ≡ getD (a .values) 1 0
   unfolding linkIndex
-  index-late h = on-true (leb 23 (a .number)) _ _ (le-leb _ _ h)
+  index-some h k = on-true (leb 23 (a .number) && leb (a .number) 27) _ _ (and-both _ _ (le-leb _ _ h) (le-leb _ _ k))
 
   abbrev Shaped : Type 0
   Shaped = ProperWith (carried 1 (linkIndex a)) a
 
   -- refused without an index, or with one, or granted
-  shaped-early : (n q : ℕ) → a ≡ refuse 2 n q → (n ≡ 0 → ⊥) → n < 23 → Shaped
-  shaped-early n q e z l =
+  shaped-other : (n q : ℕ) → a ≡ refuse 2 n q → (n ≡ 0 → ⊥) → (n < 23) ⊎ (27 < n) → Shaped
+  shaped-other n q e z l =
       let number = ap (λ x. x .number) e in
-      let i : linkIndex a ≡ 0 = index-early (omega (arith, number)) in
+      let i : linkIndex a ≡ 0 = index-none (rw number l) in
       record { granted = λ h. absurd (z (sym number ∙ h)); refused = λ h. ap (λ x. x .values) e ∙ ap (carried 1) (sym i) }
 
-  shaped-late : (n p x : ℕ) → a ≡ refuseCarrying 1 n p x → 23 ≤ n → Shaped
-  shaped-late n p x e l =
+  shaped-linked : (n p x : ℕ) → a ≡ refuseCarrying 1 n p x → (23 ≤ n) × (n ≤ 27) → Shaped
+  shaped-linked n p x e l =
       let number = ap (λ y. y .number) e in
-      let i : linkIndex a ≡ x = index-late (omega (arith, number)) ∙ ap (λ y. getD (y .values) 1 0) e in
+      let i : linkIndex a ≡ x = index-some (omega (arith, number)) (omega (arith, number)) ∙ ap (λ y. getD (y .values) 1 0) e in
       record { granted = λ h. absurd (omega (arith, number)); refused = λ h. ap (λ y. y .values) e ∙ ap (carried 1) (sym i) }
 
   shaped-granted : (values : List ℕ) → a ≡ grant values → Shaped
   shaped-granted values e = record { granted = λ h. ap (λ x. x .place) e; refused = λ h. absurd (h (ap (λ x. x .number) e)) }
 
 -- an element whose faults have these numbers
-shaped-at : (room p : ℕ) (x : Stored) (a : Answer) → a ≡ copyAt room p x → x .record-fault < 23 → ((x .chain-fault ≡ 0 → ⊥) → 23 ≤ x .chain-fault) → Shaped a
+shaped-at : (room p : ℕ) (x : Stored) (a : Answer) → a ≡ copyAt room p x → x .record-fault < 23
+    → ((x .chain-fault ≡ 0 → ⊥) → (23 ≤ x .chain-fault) × (x .chain-fault ≤ 27)) → Shaped a
 shaped-at room p x a e early late =
     elim (copy-case room p x) [
-      | by-record z ↦ shaped-early a (x .record-fault) p (e ∙ copy-record room p x z) z early
-      | by-room sound small ↦ shaped-early a 14 0 (e ∙ copy-small room p x sound small) (suc-ne-zero 13) (omega arith)
-      | by-chain sound fits z ↦ shaped-late a (x .chain-fault) p (x .chain-index) (e ∙ copy-chain room p x sound fits z) (late z)
+      | by-record z ↦ shaped-other a (x .record-fault) p (e ∙ copy-record room p x z) z (inl early)
+      | by-room sound small ↦ shaped-other a 14 0 (e ∙ copy-small room p x sound small) (suc-ne-zero 13) (inl (omega arith))
+      | by-chain sound fits z ↦ shaped-linked a (x .chain-fault) p (x .chain-index) (e ∙ copy-chain room p x sound fits z) (late z)
       | granted sound fits c ↦ shaped-granted a _ (e ∙ copy-granted room p x sound fits c)
     ]
 
@@ -184,11 +188,12 @@ copy-closed s tag ref room z = opened-stops 2 s _ z
 module _ (s : List ℕ) (tag ref room : ℕ) where
   pub copy-shape : ProperWith (carried 1 (linkIndex (copyOf s tag ref room))) (copyOf s tag ref room)
   copy-shape = elim (same? (openOf s .number) 0) [
-    | inr z ↦ shaped-early (copyOf s tag ref room) (openOf s .number) (openOf s .place) (copy-closed s tag ref room z) z (omega (arith, open-below s))
+    | inr z ↦ shaped-other (copyOf s tag ref room) (openOf s .number) (openOf s .place) (copy-closed s tag ref room z) z (inl (omega (arith, open-below s)))
     | inl opens ↦ go opens (elementAt s (find s tag ref)) refl
   ]
     where
       go : openOf s .number ≡ 0 → (x : Element) → elementAt s (find s tag ref) ≡ x → Shaped (copyOf s tag ref room)
-      go opens Absent f = shaped-early (copyOf s tag ref room) 11 0 (copy-goes s tag ref opens Absent f room) (suc-ne-zero 10) (omega arith)
+      go opens Absent f = shaped-other (copyOf s tag ref room) 11 0 (copy-goes s tag ref opens Absent f room) (suc-ne-zero 10) (inl (omega arith))
+      go opens (NotStored p) f = shaped-other (copyOf s tag ref room) 29 p (copy-goes s tag ref opens _ f room) (suc-ne-zero 28) (inr (omega arith))
       go opens (Plain p offset size) f = plain-shaped s room p offset size (copyOf s tag ref room) (copy-goes s tag ref opens _ f room)
       go opens (Extended p) f = linked-shaped s opens room p (copyOf s tag ref room) (copy-goes s tag ref opens _ f room)

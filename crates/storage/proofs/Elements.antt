@@ -6,13 +6,13 @@ use mathlib.Core.Path.{_≡_, refl, sym, ap, _∙_}
 use mathlib.Core.Logic.{_↔_, _⊎_, inl, inr}
 use mathlib.Core.List.{List}
 use mathlib.Core.Bool.{true, false}
-use lib.Dec.{leb, ltb}
+use lib.Dec.{leb, ltb, eqb}
 use lib.ListN.{length, take, drop}
-use borrow.Author.Tests.{ltb-true, ltb-false, leb-true, leb-false, le-leb, lt-leb}
+use borrow.Author.Tests.{ltb-true, ltb-false, leb-true, leb-false, le-leb, lt-leb, eq-eqb, ne-eqb}
 use Rattle.answer.specs.Search.{Hit, hit, miss, In}
 use Rattle.answer.specs.Answer.{Answer}
 use Rattle.answer.specs.declared.Refusal.{Refusal}
-use Rattle.answer.proofs.Tests.{test, zero?, in-append}
+use Rattle.answer.proofs.Tests.{test, by-test, same?, zero?, in-append}
 use Rattle.wire.specs.Numbers.{part, Bytes}
 use Rattle.wire.proofs.Numbers.{be-small, length-part}
 use Rattle.directory.specs.Limits.{lone-tag}
@@ -21,16 +21,16 @@ use Rattle.directory.specs.Slots.{tagAt, offsetAt, rows, slotsOf, baseTag, size
 use Rattle.directory.specs.Opening.{openOf}
 use Rattle.directory.specs.Links.{slotsAfter}
 use Rattle.directory.specs.Lookup.{find, findIn}
-use Rattle.directory.specs.Rules.{Live}
+use Rattle.directory.specs.Rules.{Live, Unstored, IsStored}
 use Rattle.directory.specs.Steps.Opens.{Opens}
 use Rattle.directory.specs.Steps.Cursors.{most-place}
-use Rattle.directory.proofs.Slots.{base-below, base-above}
+use Rattle.directory.proofs.Slots.{base-below, base-above, unstored-is, stored-is, size-unstored}
 use Rattle.directory.proofs.Rules.{opens-kept}
 use Rattle.directory.proofs.Opens.{opened-find}
 use Rattle.directory.proofs.Named.{found-named}
 use Rattle.storage.specs.Elements.{extendedAt, startAt, elementAt, plainOnly, locatedAt, refusalIn, onPlain}
 use Rattle.storage.specs.declared.element.Element.{Element}
-use Rattle.storage.specs.declared.element.Element.the-variants.{Absent, Plain, Extended}
+use Rattle.storage.specs.declared.element.Element.the-variants.{Absent, NotStored, Plain, Extended}
 use Rattle.storage.specs.declared.element.Located.the-variants as located
 
 -- ---- The tests of a slot
@@ -82,6 +82,15 @@ base-lone tag h k e =
       ]
     ]
 
+-- the second of them tells, where it is not the first
+pub lone-tag-is : (tag : ℕ) → (tag ≡ 107 → ⊥) → eqb tag 16491 ≡ eqb (baseTag tag) lone-tag
+unfolding baseTag
+lone-tag-is tag h =
+    elim (same? tag 16491) [
+      | inl e ↦ eq-eqb _ _ e ∙ sym (eq-eqb _ _ (ap baseTag e))
+      | inr k ↦ ne-eqb _ _ k ∙ sym (ne-eqb _ _ (base-lone tag h k))
+    ]
+
 -- ---- The places of slots
 
 rows-between : (q k p : ℕ) → In p (rows q k) → (q ≤ p) × (p ≤ q + 12 * k)
@@ -110,6 +119,11 @@ content-part s p =
       | inr m ↦ ap (λ a. take (sizeAt s p) (drop a s)) (sym (start-full s p (λ z. suc-ne-zero (m .0) (sym (m .1) ∙ z))))
     ]
 
+-- one that is not stored has none
+pub content-stored : (s : List ℕ) (p : ℕ) → 0 < length (contentAt s p) → IsStored s p
+unfolding contentAt part
+content-stored s p long u = let n : length (take 0 (drop (offsetAt s p) s)) ≡ length (contentAt s p) = rw (size-unstored s p u) in omega arith
+
 -- in an image that opens they lie inside
 module _ (s : List ℕ) (p : ℕ) (sound : openOf s .number ≡ 0) (slot : In p (slotsOf s)) (live : Live s p) where
   pub element-inside : startAt s p + sizeAt s p ≤ length s
@@ -127,13 +141,34 @@ module _ (s : List ℕ) (p : ℕ) (sound : openOf s .number ≡ 0) (slot : In p 
 
 -- ---- What is found
 
-pub element-plain : (s : List ℕ) (p : ℕ) → extendedAt s p ≡ false → elementAt s (hit p) ≡ Plain p (startAt s p) (sizeAt s p)
-unfolding elementAt
-element-plain s p e = rw (elementAt, e)
+module _ (s : List ℕ) (p : ℕ) where
+  pub element-unstored : Unstored s p → elementAt s (hit p) ≡ NotStored p
+  unfolding elementAt
+  element-unstored u = rw (elementAt, unstored-is s p .1 u)
 
-pub element-extended : (s : List ℕ) (p : ℕ) → extendedAt s p ≡ true → elementAt s (hit p) ≡ Extended p
-unfolding elementAt
-element-extended s p e = rw (elementAt, e)
+  pub element-plain : IsStored s p → extendedAt s p ≡ false → elementAt s (hit p) ≡ Plain p (startAt s p) (sizeAt s p)
+  unfolding elementAt
+  element-plain h e = rw (elementAt, stored-is s p .1 h, e)
+
+  pub element-extended : IsStored s p → extendedAt s p ≡ true → elementAt s (hit p) ≡ Extended p
+  unfolding elementAt
+  element-extended h e = rw (elementAt, stored-is s p .1 h, e)
+
+-- the element of a slot is one of these
+pub data KindAt (s : List ℕ) (p : ℕ) : Type 0 where
+  unstored : Unstored s p → elementAt s (hit p) ≡ NotStored p → KindAt s p
+  plain : IsStored s p → extendedAt s p ≡ false → elementAt s (hit p) ≡ Plain p (startAt s p) (sizeAt s p) → KindAt s p
+  extended : IsStored s p → extendedAt s p ≡ true → elementAt s (hit p) ≡ Extended p → KindAt s p
+
+pub kind-at : (s : List ℕ) (p : ℕ) → KindAt s p
+kind-at s p =
+    elim (by-test _ _ (unstored-is s p)) [
+      | inl u ↦ unstored u (element-unstored s p u)
+      | inr h ↦ elim (test (extendedAt s p)) [
+        | inl x ↦ extended h x (element-extended s p h x)
+        | inr x ↦ plain h x (element-plain s p h x)
+      ]
+    ]
 
 -- what is found in a chain of blocks is what is found in the image, if it opened with them
 pub element-opened : (s : List ℕ) (blocks tag ref : ℕ) → Opens s blocks → elementAt s (findIn s blocks tag ref) ≡ elementAt s (find s tag ref)
@@ -145,6 +180,7 @@ located-opened s blocks tag ref o = ap plainOnly (element-opened s blocks tag re
 -- an element at what was found
 pub record PlainAt (s : List ℕ) (h : Hit) (p offset size : ℕ) : Type 0 where
   pub found : h ≡ hit p
+  pub stored : IsStored s p
   pub plain : extendedAt s p ≡ false
   pub starts : offset ≡ startAt s p
   pub holds : size ≡ sizeAt s p
@@ -153,32 +189,31 @@ pub plain-at : (s : List ℕ) (h : Hit) (p offset size : ℕ) → elementAt s h 
 unfolding elementAt
 plain-at s miss p offset size e = let z : _≡_ {A = ℕ} 0 1 = cc in absurd (omega arith)
 plain-at s (hit q) p offset size e =
-    elim (test (extendedAt s q)) [
-      | inr x ↦
-          let r : Plain q (startAt s q) (sizeAt s q) ≡ Plain p offset size = sym (element-plain s q x) ∙ e in
+    elim (kind-at s q) [
+      | unstored u f ↦ let r : NotStored q ≡ Plain p offset size = sym f ∙ e in let z : _≡_ {A = ℕ} 0 1 = cc in absurd (omega arith)
+      | extended k x f ↦ let r : Extended q ≡ Plain p offset size = sym f ∙ e in let z : _≡_ {A = ℕ} 0 1 = cc in absurd (omega arith)
+      | plain k x f ↦
+          let r : Plain q (startAt s q) (sizeAt s q) ≡ Plain p offset size = sym f ∙ e in
           let same : q ≡ p = cc in
           record {
             found = ap hit same;
+            stored = rw same at k;
             plain = ap (extendedAt s) (sym same) ∙ x;
             starts = let o : startAt s q ≡ offset = cc in sym o ∙ ap (startAt s) same;
             holds = let n : sizeAt s q ≡ size = cc in sym n ∙ ap (sizeAt s) same;
           }
-      | inl x ↦
-          let r : Extended q ≡ Plain p offset size = sym (element-extended s q x) ∙ e in
-          let z : _≡_ {A = ℕ} 0 1 = cc in absurd (omega arith)
     ]
 
-pub extended-at : (s : List ℕ) (h : Hit) (p : ℕ) → elementAt s h ≡ Extended p → (h ≡ hit p) × (extendedAt s p ≡ true)
+pub extended-at : (s : List ℕ) (h : Hit) (p : ℕ) → elementAt s h ≡ Extended p → (h ≡ hit p) × IsStored s p × (extendedAt s p ≡ true)
 unfolding elementAt
 extended-at s miss p e = let z : _≡_ {A = ℕ} 0 1 = cc in absurd (omega arith)
 extended-at s (hit q) p e =
-    elim (test (extendedAt s q)) [
-      | inl x ↦
-          let r : Extended q ≡ Extended p = sym (element-extended s q x) ∙ e in
-          let same : q ≡ p = cc in (ap hit same, ap (extendedAt s) (sym same) ∙ x)
-      | inr x ↦
-          let r : Plain q (startAt s q) (sizeAt s q) ≡ Extended p = sym (element-plain s q x) ∙ e in
-          let z : _≡_ {A = ℕ} 0 1 = cc in absurd (omega arith)
+    elim (kind-at s q) [
+      | unstored u f ↦ let r : NotStored q ≡ Extended p = sym f ∙ e in let z : _≡_ {A = ℕ} 0 1 = cc in absurd (omega arith)
+      | plain k x f ↦
+          let r : Plain q (startAt s q) (sizeAt s q) ≡ Extended p = sym f ∙ e in let z : _≡_ {A = ℕ} 0 1 = cc in absurd (omega arith)
+      | extended k x f ↦
+          let r : Extended q ≡ Extended p = sym f ∙ e in let same : q ≡ p = cc in (ap hit same, rw same at k, ap (extendedAt s) (sym same) ∙ x)
     ]
 
 -- in an image that opens its part of the image is whole
@@ -186,6 +221,7 @@ pub record FoundPlain (s : List ℕ) (tag ref p offset size : ℕ) : Type 0 wher
   pub sound : openOf s .number ≡ 0
   pub is : elementAt s (find s tag ref) ≡ Plain p offset size
   pub found : find s tag ref ≡ hit p
+  pub stored : IsStored s p
   pub plain : extendedAt s p ≡ false
   pub starts : offset ≡ startAt s p
   pub holds : size ≡ sizeAt s p
@@ -202,6 +238,7 @@ found-plain s tag ref p offset size sound e =
       sound = sound;
       is = e;
       found = l .found;
+      stored = l .stored;
       plain = l .plain;
       starts = l .starts;
       holds = l .holds;
@@ -214,12 +251,14 @@ found-plain s tag ref p offset size sound e =
 
 pub located-element : (x : Element) (p offset size : ℕ) → plainOnly x ≡ located.Plain p offset size → x ≡ Plain p offset size
 located-element Absent p offset size e = let z : _≡_ {A = ℕ} 0 1 = cc in absurd (omega arith)
+located-element (NotStored q) p offset size e = let z : _≡_ {A = ℕ} 0 1 = cc in absurd (omega arith)
 located-element (Plain q o n) p offset size e = cc
 located-element (Extended q) p offset size e = let z : _≡_ {A = ℕ} 0 1 = cc in absurd (omega arith)
 
 -- no refusal has the number 0
 pub located-positive : (x : Element) (r : Refusal) → plainOnly x ≡ located.Refused r → r .number ≡ 0 → ⊥
 located-positive Absent r e z = suc-ne-zero 10 (ap (λ l. refusalIn l .number) e ∙ z)
+located-positive (NotStored p) r e z = suc-ne-zero 28 (ap (λ l. refusalIn l .number) e ∙ z)
 located-positive (Plain p o n) r e z = let q : _≡_ {A = ℕ} 0 1 = cc in omega arith
 located-positive (Extended p) r e z = suc-ne-zero 11 (ap (λ l. refusalIn l .number) e ∙ z)
 
@@ -227,5 +266,6 @@ located-positive (Extended p) r e z = suc-ne-zero 11 (ap (λ l. refusalIn l .num
 pub plain-passed : (k : ℕ) (answer : ℕ → ℕ → ℕ → Answer) (x : Element) → onPlain k answer (plainOnly x) .number ≡ 0
     → (p : ℕ) × (offset : ℕ) × (size : ℕ) × (x ≡ Plain p offset size)
 plain-passed k answer Absent e = absurd (suc-ne-zero 10 e)
+plain-passed k answer (NotStored p) e = absurd (suc-ne-zero 28 e)
 plain-passed k answer (Plain p offset size) e = (p, offset, size, refl)
 plain-passed k answer (Extended p) e = absurd (suc-ne-zero 11 e)

@@ -7,6 +7,7 @@ use Rattle.wire.specs.Numbers.{Bytes}
 use Rattle.answer.specs.Search.{Hit, hit, miss}
 use Rattle.directory.specs.Lookup.{has, findIn, hitFound}
 use Rattle.directory.specs.Links.{slotsAfter}
+use Rattle.directory.specs.Rules.{IsStored}
 use Rattle.directory.specs.Steps.Cursors.{most-place}
 use Rattle.answer.specs.declared.Refusal.{Refusal}
 use Rattle.directory.specs.declared.Found.{Found}
@@ -39,8 +40,8 @@ module _ (s : List ℕ) (bytes : Bytes s) (blocks tag ref : ℕ) (r : Found) (an
       go (hit q) h = let z : _≡_ {A = ℕ} 0 1 = cc in absurd (omega arith)
       go miss h = refl
 
--- the slot of an extended element stands no further than numbers of 32 bits reach
-pub extended-low : (s : List ℕ) → Bytes s → (blocks tag ref : ℕ) (x : Element) → x ≡ elementAt s (findIn s blocks tag ref) → (p : ℕ) → x ≡ Extended p → p ≤ most-place
+-- the slot of an extended element stands no further than numbers of 32 bits reach, and it is stored
+pub extended-low : (s : List ℕ) → Bytes s → (blocks tag ref : ℕ) (x : Element) → x ≡ elementAt s (findIn s blocks tag ref) → (p : ℕ) → x ≡ Extended p → (p ≤ most-place) × IsStored s p
 extended-low s bytes blocks tag ref x is p e =
-    let f = extended-at s (findIn s blocks tag ref) p (sym is ∙ e) .0 in
-    slots-between s bytes blocks 4 p (omega arith) (first-hit (has s tag ref) (slotsAfter s blocks 4) p f .0) .1
+    let f = extended-at s (findIn s blocks tag ref) p (sym is ∙ e) in
+    (slots-between s bytes blocks 4 p (omega arith) (first-hit (has s tag ref) (slotsAfter s blocks 4) p (f .0) .0) .1, f .1)

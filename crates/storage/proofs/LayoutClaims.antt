@@ -15,6 +15,7 @@ use Rattle.answer.proofs.Tests.{le?}
 use Rattle.wire.specs.Numbers.{be, part}
 use Rattle.directory.specs.Slots.{sizeAt, contentAt}
 use Rattle.directory.specs.Opening.{openOf}
+use Rattle.directory.specs.Rules.{IsStored}
 use Rattle.directory.specs.Named.{Named}
 use Rattle.storage.specs.Elements.{extendedAt}
 use Rattle.storage.specs.Descriptions.{firstLength, descriptionOf, recordFault}
@@ -24,7 +25,7 @@ use Rattle.storage.specs.Walks.{share}
 use Rattle.storage.specs.Copies.{inBlocks, copyAt, copyOf, elementBytes}
 use Rattle.storage.specs.Before.{faultBefore, inBlocksBefore}
 use Rattle.storage.specs.declared.description.Description.{Description}
-use Rattle.storage.proofs.Elements.{content-part}
+use Rattle.storage.proofs.Elements.{content-part, content-stored}
 use Rattle.storage.proofs.Named.{named-extended}
 use Rattle.storage.proofs.Descriptions
 use Rattle.storage.proofs.Tables.{no-reference, has-reference, unwritten-gives, written-gives}
@@ -101,7 +102,7 @@ module _ (s : List ℕ) (tag ref p room : ℕ) (named : Named s tag ref p) (exte
   unfolding inBlocks
   gives j n =
       let d = descriptionOf s (contentAt s p) in
-      let found = named-extended s tag ref p opens named extended in
+      let found = named-extended s tag ref p opens named (Copies.copied-stored s tag ref p room named granted) extended in
       let is = Copies.copy-goes s tag ref opens _ found room in
       let h = Copies.copy-passed room p (inBlocks s (contentAt s p)) (ap (λ a. a .number) (sym is) ∙ granted) in
       let b = Copies.bytes-found s tag ref opens _ found in
@@ -127,12 +128,15 @@ module _ (s : List ℕ) (tag ref p room : ℕ) (named : Named s tag ref p) (exte
 -- ---- A record of 22 bytes
 
 module _ (s : List ℕ) (tag ref p room : ℕ) (opens : openOf s .number ≡ 0) (named : Named s tag ref p) (extended : extendedAt s p ≡ true) (full : length (contentAt s p) ≡ 22) where
+  stored : IsStored s p
+  stored = content-stored s p (omega (arith, full))
+
   -- a block of reference 0 is not there
   pub full-zero : let d = descriptionOf s (contentAt s p) in
       AllHold (copyRules (contentAt s p) p room) → (j : ℕ) → ReachesBlock s d j → blockAt s d j ≡ 0 → copyOf s tag ref room ≡ refuseCarrying 1 25 p j
   full-zero rules j reached z =
       let never = full-fields s (contentAt s p) full .5 in
-      copy-broken s tag ref p room opens named extended 25 j .1 (
+      copy-broken s tag ref p room opens named stored extended 25 j .1 (
         rules,
         no-block refl (record {
           reached = reached;
@@ -144,7 +148,7 @@ module _ (s : List ℕ) (tag ref p room : ℕ) (opens : openOf s .number ≡ 0) 
   -- the answer, and the bytes, are those that there were
   pub full-as-before : (copyOf s tag ref room ≡ copyAt room p (inBlocksBefore s (contentAt s p))) × (elementBytes s tag ref ≡ inBlocksBefore s (contentAt s p) .bytes)
   full-as-before =
-      let found = named-extended s tag ref p opens named extended in
+      let found = named-extended s tag ref p opens named stored extended in
       let same = Before.full-same s (contentAt s p) full in (
         Copies.copy-goes s tag ref opens _ found room ∙ ap (copyAt room p) same,
         Copies.bytes-found s tag ref opens _ found ∙ ap (λ x. x .bytes) same,

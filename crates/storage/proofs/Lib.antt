@@ -18,4 +18,5 @@ pub mod Before
 pub mod Claims
 pub mod LayoutClaims
 pub mod SizeClaims
+pub mod UnstoredClaims
 pub mod Cases

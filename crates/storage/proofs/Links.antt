@@ -34,7 +34,7 @@ module _ (s : List ℕ) (opens : openOf s .number ≡ 0) where
 
   pub slot-there : (ref p : ℕ) → LinkSlot s ref p → There s ref (startAt s p) (sizeAt s p)
   slot-there ref p l =
-      let found = named-plain s linked-tag ref p opens (l .named) (l .plain) in
+      let found = named-plain s linked-tag ref p opens (l .named) (l .stored) (l .plain) in
       linked-there s ref p (startAt s p) (sizeAt s p) opens (linkedAt s ref) refl (linked-find s ref (l .not-zero) ∙ ap plainOnly found)
 
   -- one that is there, by its slot, or none
@@ -55,7 +55,7 @@ module _ (s : List ℕ) (opens : openOf s .number ≡ 0) where
             | inl z ↦ let gone = ap isThere (linked-zero s ref z) in none (none-there gone) gone
             | inr z ↦
                 let f = found-plain s linked-tag ref p offset size opens (located-element _ _ _ _ (sym (linked-find s ref z) ∙ e)) in
-                at p (record { named = found-named s linked-tag ref p (f .found); plain = f .plain; not-zero = z })
+                at p (record { named = found-named s linked-tag ref p (f .found); stored = f .stored; plain = f .plain; not-zero = z })
           ]
 
   -- what its fault is, of which so many bytes are needed
@@ -284,7 +284,7 @@ module _ (s : List ℕ) (opens : openOf s .number ≡ 0) where
         )
 
 -- no other numbers come of a chain
-pub broken-numbers : (s : List ℕ) (d : Description) (n x : ℕ) → Broken s d n x → 23 ≤ n
+pub broken-numbers : (s : List ℕ) (d : Description) (n x : ℕ) → Broken s d n x → (23 ≤ n) × (n ≤ 27)
 broken-numbers s d n x (no-table e h) = omega arith
 broken-numbers s d n x (short-table e h) = omega arith
 broken-numbers s d n x (no-block e h) = omega arith

@@ -14,6 +14,7 @@ use Rattle.answer.proofs.Rules.{Goes, exactly}
 use Rattle.directory.specs.Slots.{sizeAt, contentAt}
 use Rattle.directory.specs.Opening.{openOf}
 use Rattle.directory.specs.Lookup.{find}
+use Rattle.directory.specs.Rules.{IsStored}
 use Rattle.directory.specs.Named.{Named}
 use Rattle.directory.proofs.Opens.{opened-stops}
 use Rattle.storage.specs.Elements.{extendedAt, elementAt}
@@ -22,7 +23,7 @@ use Rattle.storage.specs.Links.{recordRules}
 use Rattle.storage.specs.Copies.{Stored, inPlace, inBlocks, copyAt, copyFound, copyOf}
 use Rattle.storage.specs.Sizes.{sizeOfStored, sizeFound, sizeOf}
 use Rattle.storage.specs.declared.element.Element.{Element}
-use Rattle.storage.specs.declared.element.Element.the-variants.{Absent, Plain, Extended}
+use Rattle.storage.specs.declared.element.Element.the-variants.{Absent, NotStored, Plain, Extended}
 use Rattle.storage.proofs.Named.{named-absent, named-plain, named-extended}
 use Rattle.storage.proofs.Descriptions.{record-tells}
 use Rattle.storage.proofs.Copies
@@ -42,14 +43,14 @@ size-absent s tag ref opens none = size-goes s tag ref opens _ (named-absent s t
 
 module _ (s : List ℕ) (tag ref p : ℕ) (opens : openOf s .number ≡ 0) (named : Named s tag ref p) where
   -- in plain storage: how many bytes it has there
-  pub size-plain : extendedAt s p ≡ false → sizeOf s tag ref ≡ grant (sizeAt s p ∷ [])
+  pub size-plain : IsStored s p → extendedAt s p ≡ false → sizeOf s tag ref ≡ grant (sizeAt s p ∷ [])
   unfolding inPlace
-  size-plain e = size-goes s tag ref opens _ (named-plain s tag ref p opens named e) ∙ size-granted p (inPlace s _ (sizeAt s p)) refl
+  size-plain h e = size-goes s tag ref opens _ (named-plain s tag ref p opens named h e) ∙ size-granted p (inPlace s _ (sizeAt s p)) refl
 
   -- in linked blocks: the length that its record has, exactly if that keeps its rules; no table and no block is looked at
-  module _ (extended : extendedAt s p ≡ true) where
+  module _ (stored : IsStored s p) (extended : extendedAt s p ≡ true) where
     linked-is : sizeOf s tag ref ≡ sizeOfStored p (inBlocks s (contentAt s p))
-    linked-is = size-goes s tag ref opens _ (named-extended s tag ref p opens named extended)
+    linked-is = size-goes s tag ref opens _ (named-extended s tag ref p opens named stored extended)
 
     goes : Goes (recordRules (contentAt s p) p) (sizeOf s tag ref ≡ grant (recordLength (contentAt s p) ∷ []))
         (λ n q. (sizeOf s tag ref ≡ refuse 1 n q) × (n ≡ 0 → ⊥))
@@ -97,10 +98,11 @@ beside s tag ref =
   where
     go : openOf s .number ≡ 0 → (x : Element) → elementAt s (find s tag ref) ≡ x → Beside s tag ref
     go opens Absent f = neither 11 0 (suc-ne-zero 10) (size-goes s tag ref opens _ f) (Copies.copy-goes s tag ref opens _ f)
+    go opens (NotStored p) f = neither 29 p (suc-ne-zero 28) (size-goes s tag ref opens _ f) (Copies.copy-goes s tag ref opens _ f)
     go opens (Plain p offset size) f =
         both-at p (inPlace s offset size) (size-goes s tag ref opens _ f) (Copies.copy-goes s tag ref opens _ f) (λ z. absurd (z refl))
     go opens (Extended p) f =
-        both-at p (inBlocks s (contentAt s p)) (size-goes s tag ref opens _ f) (Copies.copy-goes s tag ref opens _ f) (chain-numbers s opens (contentAt s p) p 0)
+        both-at p (inBlocks s (contentAt s p)) (size-goes s tag ref opens _ f) (Copies.copy-goes s tag ref opens _ f) (λ z. chain-numbers s opens (contentAt s p) p 0 z .0)
 
 -- what is copied has that many bytes
 pub size-copied : (s : List ℕ) (tag ref room n : ℕ) → copyOf s tag ref room ≡ grant (n ∷ 0 ∷ []) → sizeOf s tag ref ≡ grant (n ∷ [])

@@ -1,18 +1,28 @@
--- What an element in linked blocks was by document 01 and request (i) of document 02 alone: one layout of its record, of 22 bytes, and no block
--- without a reference. Request (iii) is to leave what such a record answers as it was; the claim of that is about these definitions, and
--- nothing else uses them. Assumes nothing.
+-- What elements were before two requests of document 02, which are to leave what they do not name as it was: the claims of that are about these
+-- definitions, and nothing else uses them. By document 01 and request (i) alone, an element in linked blocks had one layout of its record, of 22
+-- bytes, and no block without a reference; request (iii) leaves such a record's answers. And a slot with offset and length all ones was
+-- none that opens; request (vii) leaves the answers of every file that opened. Assumes nothing.
 use Prim.Native.Nat.{ℕ, zero, suc, _+_, _-_}
 use mathlib.Core.List.{List, [], _∷_, _++_}
 use mathlib.Core.Bool.{true, false, not}
 use lib.ListN.{length, take}
 use lib.Dec.{leb, eqb}
-use Rattle.answer.specs.Search.{must}
-use Rattle.wire.specs.Numbers.{be}
+use Rattle.answer.specs.Search.{must, Hit, hit, miss}
+use Rattle.wire.specs.Numbers.{be, part}
+use Rattle.directory.specs.Slots.{offsetAt}
+use Rattle.directory.specs.Lookup.{find}
+use Rattle.directory.specs.Before.{sizeBefore}
+use Rattle.storage.specs.Elements.{extendedAt, plainOnly}
 use Rattle.storage.specs.Tables.{linkedBytes, nextTable, blockRef, linkFault, tableFault}
 use Rattle.storage.specs.Descriptions.{fullDescription}
 use Rattle.storage.specs.Walks.{share, Walk, ends, breaks, joined, andThen}
 use Rattle.storage.specs.Copies.{Stored, ofWalk}
 use Rattle.storage.specs.declared.description.Description.{Description}
+use Rattle.storage.specs.declared.element.Element.{Element}
+use Rattle.storage.specs.declared.element.Element.the-variants.{Absent, Plain, Extended}
+use Rattle.storage.specs.declared.element.Located.{Located}
+
+-- ---- Request (iii)
 
 -- the number of the first rule that the bytes of an extended element broke as a record
 unfoldable pub faultBefore : List ℕ → ℕ
@@ -60,3 +70,20 @@ chainBefore s r = tablesBefore s (fullDescription r) 256 [] (be 2 r 20) 0 (be 4 
 
 unfoldable pub inBlocksBefore : List ℕ → List ℕ → Stored
 inBlocksBefore s r = ofWalk (faultBefore r) (be 4 r 4) (chainBefore s r)
+
+-- ---- Request (vii)
+
+-- what a pair named before a slot with offset and length all ones was taken: the same, by the length that the slot says
+unfoldable pub startBefore : List ℕ → ℕ → ℕ
+startBefore s p = elim (sizeBefore s p) [ zero ↦ 0 | suc n ↦ offsetAt s p ]
+
+unfoldable pub elementBefore : List ℕ → Hit → Element
+elementBefore s (hit p) = elim (extendedAt s p) [ false ↦ Plain p (startBefore s p) (sizeBefore s p) | true ↦ Extended p ]
+elementBefore s miss = Absent
+
+unfoldable pub contentBefore : List ℕ → ℕ → List ℕ
+contentBefore s p = part s (offsetAt s p) (sizeBefore s p)
+
+-- the table or block with a reference
+unfoldable pub linkedBefore : List ℕ → ℕ → Located
+linkedBefore s ref = elim (eqb ref 0) [ true ↦ plainOnly Absent | false ↦ plainOnly (elementBefore s (find s 20 ref)) ]

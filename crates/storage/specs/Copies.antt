@@ -1,11 +1,11 @@
--- Copying an element's bytes to the front of a lent buffer, after document 01, "Reading elements", and requests (i) and (iii) of
+-- Copying an element's bytes to the front of a lent buffer, after document 01, "Reading elements", and requests (i), (iii) and (vii) of
 -- document 02. Assumes nothing.
 use Prim.Native.Nat.{ℕ}
 use mathlib.Core.List.{List, [], _∷_}
-use mathlib.Core.Bool.{true, false}
+use mathlib.Core.Bool.{true, false, _&&_}
 use lib.ListN.{length, getD}
 use lib.Dec.{leb}
-use Rattle.answer.specs.Refusals.{ABSENT, NO-TABLE}
+use Rattle.answer.specs.Refusals.{ABSENT, NO-TABLE, TABLE-LOOP, NOT-STORED}
 use Rattle.answer.specs.Answer.{Answer, grant, refuse, carrying, unless, unlessCarrying, inRoom}
 use Rattle.answer.specs.Lent.{laidOver}
 use Rattle.wire.specs.Numbers.{part}
@@ -16,7 +16,7 @@ use Rattle.storage.specs.Elements.{elementAt}
 use Rattle.storage.specs.Descriptions.{descriptionOf, recordLength, recordFault}
 use Rattle.storage.specs.Walks.{Walk, chainOf}
 use Rattle.storage.specs.declared.element.Element.{Element}
-use Rattle.storage.specs.declared.element.Element.the-variants.{Absent, Plain, Extended}
+use Rattle.storage.specs.declared.element.Element.the-variants.{Absent, NotStored, Plain, Extended}
 use Rattle.storage.specs.declared.copy.Copied.{Copied}
 use Rattle.storage.specs.declared.copy.Copied.the-variants as copied
 
@@ -55,6 +55,7 @@ copyAt room p x =
 -- what the call goes on to at an element
 abbrev pub copyFound : List ℕ → ℕ → Element → Answer
 copyFound s room Absent = refuse 2 ABSENT 0
+copyFound s room (NotStored p) = refuse 2 NOT-STORED p
 copyFound s room (Plain p offset size) = copyAt room p (inPlace s offset size)
 copyFound s room (Extended p) = copyAt room p (inBlocks s (contentAt s p))
 
@@ -63,6 +64,7 @@ copyOf s tag ref room = opened 2 s (copyFound s room (elementAt s (find s tag re
 
 abbrev pub bytesFound : List ℕ → Element → List ℕ
 bytesFound s Absent = []
+bytesFound s (NotStored p) = []
 bytesFound s (Plain p offset size) = inPlace s offset size .bytes
 bytesFound s (Extended p) = inBlocks s (contentAt s p) .bytes
 
@@ -72,7 +74,7 @@ elementBytes s tag ref = bytesFound s (elementAt s (find s tag ref))
 
 -- the index that an answer has: of a table or a block, by the numbers of their faults, and else 0
 unfoldable pub linkIndex : Answer → ℕ
-linkIndex answer = elim (leb NO-TABLE (answer .number)) [ true ↦ getD (answer .values) 1 0 | false ↦ 0 ]
+linkIndex answer = elim (leb NO-TABLE (answer .number) && leb (answer .number) TABLE-LOOP) [ true ↦ getD (answer .values) 1 0 | false ↦ 0 ]
 
 -- the lent buffer after the call
 abbrev pub copyAfter : List ℕ → ℕ → ℕ → List ℕ → List ℕ

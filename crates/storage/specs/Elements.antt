@@ -1,17 +1,18 @@
--- What a tag and a reference name in an image, after document 01, "Reading elements": the one way to an element. Assumes nothing.
+-- What a tag and a reference name in an image, after document 01, "Reading elements", and request (vii) of document 02: the one way to an
+-- element. Assumes nothing.
 use Prim.Native.Nat.{ℕ, zero, suc}
 use mathlib.Core.List.{List, []}
 use mathlib.Core.Bool.{Bool, true, false, _&&_}
 use lib.Dec.{leb}
-use Rattle.answer.specs.Refusals.{ABSENT, STORAGE}
+use Rattle.answer.specs.Refusals.{ABSENT, NOT-STORED, STORAGE}
 use Rattle.answer.specs.Search.{Hit, hit, miss}
 use Rattle.answer.specs.Answer.{Answer, refusal}
 use Rattle.answer.specs.declared.Refusal.{Refusal}
 use Rattle.wire.specs.Numbers.{part}
 use Rattle.directory.specs.Limits.{extended-first, extended-last}
-use Rattle.directory.specs.Slots.{tagAt, offsetAt, sizeAt}
+use Rattle.directory.specs.Slots.{tagAt, offsetAt, unstoredAt, sizeAt}
 use Rattle.storage.specs.declared.element.Element.{Element}
-use Rattle.storage.specs.declared.element.Element.the-variants.{Absent, Plain, Extended}
+use Rattle.storage.specs.declared.element.Element.the-variants.{Absent, NotStored, Plain, Extended}
 use Rattle.storage.specs.declared.element.Located.{Located}
 use Rattle.storage.specs.declared.element.Located.the-variants as located
 
@@ -25,17 +26,23 @@ startAt s p = elim (sizeAt s p) [ zero ↦ 0 | suc n ↦ offsetAt s p ]
 
 -- what is at the slot that a lookup found, if it found one
 unfoldable pub elementAt : List ℕ → Hit → Element
-elementAt s (hit p) = elim (extendedAt s p) [ false ↦ Plain p (startAt s p) (sizeAt s p) | true ↦ Extended p ]
+elementAt s (hit p) =
+    elim (unstoredAt s p) [
+      | true ↦ NotStored p
+      | false ↦ elim (extendedAt s p) [ false ↦ Plain p (startAt s p) (sizeAt s p) | true ↦ Extended p ]
+    ]
 elementAt s miss = Absent
 
 abbrev pub isAbsent : Element → Bool
 isAbsent Absent = true
+isAbsent (NotStored p) = false
 isAbsent (Plain p offset size) = false
 isAbsent (Extended p) = false
 
--- what a call that reads plain storage alone makes of it: 11, 12, or the element
+-- what a call that reads plain storage alone makes of it: 11, 29, 12, or the element
 abbrev pub plainOnly : Element → Located
 plainOnly Absent = located.Refused (record { number = ABSENT; place = 0 })
+plainOnly (NotStored p) = located.Refused (record { number = NOT-STORED; place = p })
 plainOnly (Plain p offset size) = located.Plain p offset size
 plainOnly (Extended p) = located.Refused (record { number = STORAGE; place = p })
 

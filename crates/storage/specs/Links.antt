@@ -1,5 +1,5 @@
 -- The rules of an element in linked blocks as facts about its record and about its tables and blocks, each by its index, without a walk, after
--- document 01, "Reading elements", and requests (i) and (iii) of document 02. The numbers are the papers' own. Assumes nothing.
+-- document 01, "Reading elements", and requests (i), (iii) and (vii) of document 02. The numbers are the papers' own. Assumes nothing.
 use Prim.Native.Nat.{ℕ, zero, suc, _+_, _*_, _-_, _/_, _%_, _<_, _≤_}
 use mathlib.Core.Path.{_≡_}
 use mathlib.Core.Logic.{_⊎_}
@@ -10,6 +10,7 @@ use lib.Dec.{eqb}
 use Rattle.answer.specs.Rules.{Rules, done, rule, followed}
 use Rattle.wire.specs.Numbers.{be}
 use Rattle.directory.specs.Slots.{sizeAt}
+use Rattle.directory.specs.Rules.{IsStored}
 use Rattle.directory.specs.Named.{Named}
 use Rattle.storage.specs.Elements.{extendedAt}
 use Rattle.storage.specs.Tables.{linkedBytes, blockRef, tableAfter}
@@ -81,9 +82,10 @@ taken d j = share d j (d .length - bytesBefore d j)
 
 -- ---- Sound ones
 
--- the slot at p has the table or block with a reference: tag 20, in plain storage; 0 is no reference of one
+-- the slot at p has the table or block with a reference: tag 20, stored, in plain storage; 0 is no reference of one
 pub record LinkSlot (s : List ℕ) (ref p : ℕ) : Type 0 where
   pub named : Named s 20 ref p
+  pub stored : IsStored s p
   pub plain : extendedAt s p ≡ false
   pub not-zero : ref ≡ 0 → ⊥
 

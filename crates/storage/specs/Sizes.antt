@@ -1,7 +1,7 @@
 -- How many bytes an element has, before it is copied: a call of our own beside document 01's "Reading elements". Assumes nothing.
 use Prim.Native.Nat.{ℕ}
 use mathlib.Core.List.{List, [], _∷_}
-use Rattle.answer.specs.Refusals.{ABSENT}
+use Rattle.answer.specs.Refusals.{ABSENT, NOT-STORED}
 use Rattle.answer.specs.Answer.{Answer, grant, refuse, refusal, unless}
 use Rattle.directory.specs.Slots.{contentAt}
 use Rattle.directory.specs.Opening.{opened}
@@ -9,7 +9,7 @@ use Rattle.directory.specs.Lookup.{find}
 use Rattle.storage.specs.Elements.{elementAt}
 use Rattle.storage.specs.Copies.{Stored, inPlace, inBlocks}
 use Rattle.storage.specs.declared.element.Element.{Element}
-use Rattle.storage.specs.declared.element.Element.the-variants.{Absent, Plain, Extended}
+use Rattle.storage.specs.declared.element.Element.the-variants.{Absent, NotStored, Plain, Extended}
 use Rattle.storage.specs.declared.size.Sized.{Sized}
 use Rattle.storage.specs.declared.size.Sized.the-variants as sized
 
@@ -24,6 +24,7 @@ sizeOfStored p x = unless 1 (x .record-fault) p (grant (x .size ∷ []))
 -- what the call goes on to at an element
 abbrev pub sizeFound : List ℕ → Element → Answer
 sizeFound s Absent = refuse 1 ABSENT 0
+sizeFound s (NotStored p) = refuse 1 NOT-STORED p
 sizeFound s (Plain p offset size) = sizeOfStored p (inPlace s offset size)
 sizeFound s (Extended p) = sizeOfStored p (inBlocks s (contentAt s p))
 

@@ -6,6 +6,7 @@ use super::linked;
 use answer::Carrying;
 use answer::Refusal;
 use answer::refusals::ABSENT;
+use answer::refusals::NOT_STORED;
 use answer::refusals::SMALL;
 use directory::Opened;
 ghost use mathlib.Core.Path.{_≡_};
@@ -14,6 +15,7 @@ ghost use lib.ListN.{length};
 ghost use Rattle.answer.specs.Answer.{refusal};
 ghost use Rattle.answer.specs.Lent.{Does};
 ghost use Rattle.directory.specs.Slots.{contentAt};
+ghost use Rattle.directory.specs.Rules.{IsStored};
 ghost use Rattle.directory.specs.Steps.Cursors.{most-place};
 ghost use Rattle.directory.specs.Steps.Opens.{Opens};
 ghost use Rattle.storage.specs.Copies.{copiedNumbers, inBlocks, copyAt, copyOf, elementBytes};
@@ -37,7 +39,7 @@ fn refused(r: Refusal) -> Copied
 
 // Copies the bytes of the element in linked blocks of the slot at p. All is judged first, by a walk that has no buffer to write to.
 fn copy_blocks(image: &[u8], blocks: usize, p: usize, out: &mut [u8]) -> Copied
-    requires { ⌜ Opens (now image) blocks × (p ≤ most-place) ⌝ }
+    requires { ⌜ Opens (now image) blocks × (p ≤ most-place) × IsStored (now image) p ⌝ }
     ensures { λ r. ⌜ (let x = inBlocks (now (image .entry)) (contentAt (now (image .entry)) p) in
         Does (copyAt (length (now (out .entry))) p x) (x .bytes) (now (out .entry)) (now (out .exit)) (copiedNumbers r)) ⌝ }
 {
@@ -81,6 +83,10 @@ pub fn copy(image: &[u8], tag: u16, reference: u16, out: &mut [u8]) -> Copied
         Element::Absent => refused(Refusal {
             number: ABSENT,
             place: 0,
+        }),
+        Element::NotStored(slot) => refused(Refusal {
+            number: NOT_STORED,
+            place: slot,
         }),
         Element::Extended(slot) => copy_blocks(image, counts.blocks, slot, out),
         Element::Plain {

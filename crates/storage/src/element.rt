@@ -2,21 +2,28 @@
 use super::format::EXTENDED_LONE;
 use answer::Refusal;
 use answer::refusals::ABSENT;
+use answer::refusals::NOT_STORED;
 use answer::refusals::STORAGE;
 use directory::Found;
+use directory::format::ALL_ONES;
 use directory::format::EXTENDED_FIRST;
 use directory::format::EXTENDED_LAST;
 use directory::format::LONE;
 ghost use mathlib.Core.Path.{_≡_};
 ghost use Prim.Native.Nat.{_≤_};
+ghost use lib.Dec.{eqb};
+ghost use Rattle.directory.specs.Limits.{lone-tag};
 ghost use Rattle.directory.specs.Lookup.{findIn};
-ghost use Rattle.directory.specs.Slots.{sizeAt, contentAt};
+ghost use Rattle.directory.specs.Slots.{baseTag, unstoredAt, sizeAt, contentAt, tagAt};
+ghost use Rattle.directory.specs.Rules.{IsStored};
 ghost use Rattle.directory.specs.Steps.Cursors.{most-place};
 ghost use Rattle.storage.specs.Elements.{extendedAt, startAt, elementAt, isAbsent, plainOnly, refusalIn};
 
-// Nothing; an element in plain storage, with the place of its slot and where its bytes stand; or one in extended storage, with its slot.
+// Nothing; an element that is named and not stored yet, with the place of its slot; one in plain storage, with its slot and where its bytes
+// stand; or one in extended storage, with its slot.
 pub enum Element {
     Absent,
+    NotStored(usize),
     Plain {
         slot: usize,
         offset: usize,
@@ -46,38 +53,60 @@ fn is_extended(image: &[u8], p: usize) -> bool
     tag <= EXTENDED_LAST
 }
 
-// How many bytes the element of the slot at p has.
-pub(crate) fn size(image: &[u8], p: usize) -> usize
-    requires { ⌜ p ≤ most-place ⌝ }
-    ensures { λ r. ⌜ r ≡ sizeAt (now (image .entry)) p ⌝ }
+// Whether the slot at p has the base tag whose element is empty.
+fn is_lone(image: &[u8], p: usize) -> bool
+    ensures { λ r. ⌜ r ≡ eqb (baseTag (tagAt (now (image .entry)) p)) lone-tag ⌝ }
 {
     let tag = wire::read16(image, p);
     if tag == LONE {
-        return 0;
+        return true;
     }
-    if tag == EXTENDED_LONE {
+    tag == EXTENDED_LONE
+}
+
+// Whether the element of the slot at p is named and not stored yet.
+fn is_unstored(image: &[u8], p: usize) -> bool
+    requires { ⌜ p ≤ most-place ⌝ }
+    ensures { λ r. ⌜ r ≡ unstoredAt (now (image .entry)) p ⌝ }
+{
+    if wire::read32(image, p + 8) != ALL_ONES {
+        return false;
+    }
+    if wire::read32(image, p + 4) != ALL_ONES {
+        return false;
+    }
+    !is_lone(image, p)
+}
+
+// How many bytes the element of the slot at p has, which is stored.
+fn size(image: &[u8], p: usize) -> usize
+    requires { ⌜ (p ≤ most-place) × IsStored (now image) p ⌝ }
+    ensures { λ r. ⌜ r ≡ sizeAt (now (image .entry)) p ⌝ }
+{
+    if is_lone(image, p) {
         return 0;
     }
     wire::read32(image, p + 8)
 }
 
-// Where the bytes of the element of the slot at p start, 0 where it has none.
-pub(crate) fn start(image: &[u8], p: usize) -> usize
-    requires { ⌜ p ≤ most-place ⌝ }
+// Where the bytes of the element of the slot at p start, of which there are so many; 0 where it has none.
+fn start(image: &[u8], p: usize, size: usize) -> usize
+    requires { ⌜ (p ≤ most-place) × (size ≡ sizeAt (now image) p) ⌝ }
     ensures { λ r. ⌜ r ≡ startAt (now (image .entry)) p ⌝ }
 {
-    if size(image, p) == 0 {
+    if size == 0 {
         return 0;
     }
     wire::read32(image, p + 4)
 }
 
-// The bytes of the element of the slot at p, as far as they reach; of an extended element, its record.
+// The bytes of the element of the slot at p, which is stored, as far as they reach; of an extended element, its record.
 pub(crate) fn content(image: &[u8], p: usize) -> &[u8]
-    requires { ⌜ p ≤ most-place ⌝ }
+    requires { ⌜ (p ≤ most-place) × IsStored (now image) p ⌝ }
     ensures { λ r. ⌜ now r ≡ contentAt (now (image .entry)) p ⌝ }
 {
-    wire::part(image, start(image, p), size(image, p))
+    let size = size(image, p);
+    wire::part(image, start(image, p, size), size)
 }
 
 // What the base tag of a tag and a reference name in a chain of so many blocks.
@@ -87,13 +116,17 @@ pub fn find(image: &[u8], blocks: usize, tag: u16, reference: u16) -> Element
     let Found::At(slot) = directory::find_slot(image, blocks, tag, reference) else {
         return Element::Absent;
     };
+    if is_unstored(image, slot) {
+        return Element::NotStored(slot);
+    }
     if is_extended(image, slot) {
         return Element::Extended(slot);
     }
+    let length = size(image, slot);
     Element::Plain {
         slot,
-        offset: start(image, slot),
-        length: size(image, slot),
+        offset: start(image, slot, length),
+        length,
     }
 }
 
@@ -102,6 +135,7 @@ pub(crate) fn is_absent(element: Element) -> bool
 {
     match element {
         Element::Absent => true,
+        Element::NotStored(_) => false,
         Element::Plain { .. } => false,
         Element::Extended(_) => false,
     }
@@ -115,6 +149,10 @@ pub fn plain(element: Element) -> Located
         Element::Absent => Located::Refused(Refusal {
             number: ABSENT,
             place: 0,
+        }),
+        Element::NotStored(slot) => Located::Refused(Refusal {
+            number: NOT_STORED,
+            place: slot,
         }),
         Element::Plain {
             slot,

@@ -4,10 +4,12 @@ use super::element;
 use super::element::Element;
 use answer::Refusal;
 use answer::refusals::ABSENT;
+use answer::refusals::NOT_STORED;
 use directory::Opened;
 ghost use mathlib.Core.Path.{_≡_};
 ghost use Prim.Native.Nat.{_≤_};
 ghost use Rattle.directory.specs.Slots.{contentAt};
+ghost use Rattle.directory.specs.Rules.{IsStored};
 ghost use Rattle.directory.specs.Steps.Cursors.{most-place};
 ghost use Rattle.storage.specs.Copies.{inBlocks};
 ghost use Rattle.storage.specs.Sizes.{sizedNumbers, sizeOfStored, sizeOf};
@@ -19,7 +21,7 @@ pub enum Sized {
 
 // The size of the element in linked blocks of the slot at p.
 fn size_in_blocks(image: &[u8], p: usize) -> Sized
-    requires { ⌜ p ≤ most-place ⌝ }
+    requires { ⌜ (p ≤ most-place) × IsStored (now image) p ⌝ }
     ensures { λ r. ⌜ sizedNumbers r ≡ sizeOfStored p (inBlocks (now (image .entry)) (contentAt (now (image .entry)) p)) ⌝ }
 {
     let record = element::content(image, p);
@@ -45,6 +47,10 @@ pub fn size(image: &[u8], tag: u16, reference: u16) -> Sized
         Element::Absent => Sized::Refused(Refusal {
             number: ABSENT,
             place: 0,
+        }),
+        Element::NotStored(slot) => Sized::Refused(Refusal {
+            number: NOT_STORED,
+            place: slot,
         }),
         Element::Extended(slot) => size_in_blocks(image, slot),
         Element::Plain {

@@ -1,26 +1,34 @@
 -- What a reader wants to know of the values of Vdatas: their bits are exactly the element's, they lie inside it, which values are given and which
 -- are refused, and what is given as facts. Assumes nothing.
-use Prim.Native.Nat.{ℕ, _+_, _%_, _^_, _≤_}
+use Prim.Native.Nat.{ℕ, _+_, _*_, _%_, _^_, _<_, _≤_}
+use native.Mathlib.Nat.{suc-ne-zero}
 use native.Mathlib.Omega.{arith}
 use mathlib.Core.Path.{_≡_, sym, ap, _∙_}
-use mathlib.Core.Logic.{_↔_}
+use mathlib.Core.Logic.{_↔_, _⊎_, inl, inr}
 use mathlib.Core.List.{List, [], _∷_}
 use lib.ListN.{length, getD}
 use Rattle.answer.specs.Answer.{grant, refuse}
-use Rattle.answer.specs.Rules.{AllHold, FirstBroken}
+use Rattle.answer.specs.Rules.{Rules, done, rule, AllHold, FirstBroken}
+use Rattle.answer.proofs.Rules.{broken-then, first-then, then-broken, broken-below}
 use Rattle.wire.specs.Numbers.{be, Bytes}
+use Rattle.directory.specs.Opening.{openOf}
 use Rattle.directory.specs.Lookup.{find}
+use Rattle.directory.specs.Rules.{Unstored}
+use Rattle.directory.specs.Named.{Named, NamedUnstored}
 use Rattle.records.specs.Readings.{recordBytes}
+use Rattle.records.specs.RecordRules.{slotIn, plainRules, recordRules}
 use Rattle.records.specs.Types.{signed, widthOf, kindOf}
 use Rattle.records.proofs.Readings.{plain-bytes, content-bytes}
-use Rattle.records.proofs.RecordRules.{by-exactly}
+use Rattle.records.proofs.RecordRules.{by-exactly, first-unstored, opened-unstored}
 use Rattle.vhead.specs.Limits.{head-tag}
 use Rattle.vhead.specs.Heads.{headIn, fieldAt}
+use Rattle.vhead.specs.HeadRules.{recordsOf, recordSizeOf, fieldCount, orderOf, headRules}
+use Rattle.vhead.proofs.HeadRules.{head-below}
 use Rattle.vhead.proofs.Heads.{head-is}
 use Rattle.vdata.specs.Patterns.{valueAt, valueKind, valueBits}
 use Rattle.vdata.specs.Limits.{values-tag}
 use Rattle.vdata.specs.Values.{placeOf, valueIn, valueOf}
-use Rattle.vdata.specs.ValueRules.{ValueIs, Readable, valueRules}
+use Rattle.vdata.specs.ValueRules.{Indexed, ValueIs, Readable, afterRules, valueRules}
 use Rattle.vdata.proofs.Values.{granted-readable, readable-granted}
 use Rattle.vdata.proofs.ValueRules.{lies-inside, facts-hold, value-once, value-by}
 use Rattle.vdata.proofs.Patterns.{exact}
@@ -58,6 +66,35 @@ module _ (s : List ℕ) (ref r i c : ℕ) where
   pub value-refused : (n p : ℕ) → ((valueOf s ref r i c ≡ refuse 2 n p) × (n ≡ 0 → ⊥)) ↔ FirstBroken (valueRules s ref r i c) n p
   value-refused = by-exactly 2 _ _ (value-by s ref r i c) .1
 
+  -- 29 exactly if the head is named and not stored yet, or, after a sound head and indices that there are, the values are
+  pub value-unstored : (p : ℕ) → let e = recordBytes s (find s 1962 ref) in
+      (valueOf s ref r i c ≡ refuse 2 29 p)
+      ↔ (NamedUnstored s 1962 ref p ⊎ (AllHold (recordRules s 1962 ref (λ q e. headRules q e done)) × Indexed e r i c × Named s 1963 ref p × Unstored s p))
+  value-unstored p =
+      let e = recordBytes s (find s 1962 ref) in
+      let head = recordRules s 1962 ref (λ q e. headRules q e done) in
+      let after = afterRules s e (find s 1963 ref) r i c in
+      let whole : Rules = rule 15 (slotIn (find s 1963 ref)) (recordsOf e * recordSizeOf e ≤ length (recordBytes s (find s 1963 ref))) done in
+      let values = plainRules s (find s 1963 ref) whole in
+      let indices = rule 17 0 (r < recordsOf e) (rule 17 0 (i < fieldCount e) (rule 17 0 (c < orderOf e i) done)) in
+      let first = opened-unstored s 1962 ref p (headRules (slotIn (find s 1962 ref)) e done) (head-below (slotIn (find s 1962 ref)) e done tt) in
+      let second : (openOf s .number ≡ 0) → FirstBroken values 29 p ↔ (Named s 1963 ref p × Unstored s p) =
+      λ opens. first-unstored s 1963 ref p opens whole (omega arith, tt) in (
+        (λ q. elim (broken-then head after 29 p (value-refused 29 p .0 (q, suc-ne-zero 28))) [
+          | inl b ↦ inl (first .0 b)
+          | inr (a, b) ↦ elim (broken-then indices values 29 p b) [
+            | inl x ↦ absurd (omega (arith, broken-below 29 29 p indices (omega arith, (omega arith, (omega arith, tt))) x))
+            | inr ((x, (y, (z, w))), b) ↦
+                let h = second (a .0) .0 b in inr (a, record { record-there = x; field-there = y; component-there = z }, h .0, h .1)
+          ]
+        ]),
+        (λ h. value-refused 29 p .1 (elim h [
+          | inl u ↦ first-then head after 29 p (first .1 u)
+          | inr (a, x, n, u) ↦
+              then-broken head after 29 p a (then-broken indices values 29 p (x .record-there, (x .field-there, (x .component-there, tt))) (second (a .0) .1 (n, u)))
+        ]) .0),
+      )
+
 -- ---- A value as facts
 
 -- a value is given exactly if there is one to read
@@ -75,7 +112,7 @@ module _ (s : List ℕ) (ref r i c kind bits : ℕ) (b : Bytes s) where
   answer-facts : Readable s ref r i c → let x = valueIn (recordBytes s (find s head-tag ref)) (recordBytes s (find s values-tag ref)) r i c in
       ValueIs (recordBytes s (find s 1962 ref)) (recordBytes s (find s 1963 ref)) r i c (valueKind x) (valueBits x)
   answer-facts x =
-      let own : Bytes (recordBytes s (find s values-tag ref)) = rw (plain-bytes s values-tag ref (x .values .slot) (x .values .found) (x .values .plain)) (content-bytes s (x .values .slot) b) in
+      let own : Bytes (recordBytes s (find s values-tag ref)) = rw (plain-bytes s values-tag ref (x .values .slot) (x .values .found) (x .values .stored) (x .values .plain)) (content-bytes s (x .values .slot) b) in
       facts-hold (recordBytes s (find s head-tag ref)) (x .sound) r i c (x .indexed) (recordBytes s (find s values-tag ref)) own (x .whole)
 
   -- where it lies, and its kind and its bits by the bytes that stand there

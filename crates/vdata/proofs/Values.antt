@@ -271,10 +271,10 @@ granted-readable s ref r i c q =
     let v = record-granted 2 s values-tag ref (valuesFault (headIn e)) (given s e values r i c) b in
     record {
       opens = g .1 .found .sound;
-      head = record { slot = g .0; found = g .1 .found .found; plain = g .1 .found .plain };
+      head = record { slot = g .0; found = g .1 .found .found; stored = g .1 .found .stored; plain = g .1 .found .plain };
       sound = ap headFault (g .1 .bytes) ∙ g .1 .sound;
       indexed = rw (g .1 .bytes) (indices-there e r i c inside);
-      values = record { slot = v .0; found = v .1 .found .found; plain = v .1 .found .plain };
+      values = record { slot = v .0; found = v .1 .found .found; stored = v .1 .found .stored; plain = v .1 .found .plain };
       whole = rw (g .1 .bytes, v .1 .bytes, ← all-records e) (leb-true _ _ (passed _ 14 _ (v .1 .sound) .0));
     }
 
@@ -292,11 +292,11 @@ readable-granted s ref r i c x =
     let h = headIn e in
     let from = x .head in
     let to = x .values in
-    let head-bytes = plain-bytes s head-tag ref (from .slot) (from .found) (from .plain) in
-    let value-bytes = plain-bytes s values-tag ref (to .slot) (to .found) (to .plain) in
+    let head-bytes = plain-bytes s head-tag ref (from .slot) (from .found) (from .stored) (from .plain) in
+    let value-bytes = plain-bytes s values-tag ref (to .slot) (to .found) (to .stored) (to .plain) in
     let long = must-holds _ RECORD 0 (le-leb (h .records * h .«record_size») (length (recordBytes s values)) (rw (all-records e) (x .whole))) in
-    let g = content-passes 2 s head-tag ref headFault (λ at e. valueAfter s e values r i c) (from .slot) (x .opens) (from .found) (from .plain) (ap headFault (sym head-bytes) ∙ x .sound) in
-    let w = content-passes 2 s values-tag ref (valuesFault h) (given s e values r i c) (to .slot) (x .opens) (to .found) (to .plain) (ap (valuesFault h) (sym value-bytes) ∙ long) in
+    let g = content-passes 2 s head-tag ref headFault (λ at e. valueAfter s e values r i c) (from .slot) (x .opens) (from .found) (from .stored) (from .plain) (ap headFault (sym head-bytes) ∙ x .sound) in
+    let w = content-passes 2 s values-tag ref (valuesFault h) (given s e values r i c) (to .slot) (x .opens) (to .found) (to .stored) (to .plain) (ap (valuesFault h) (sym value-bytes) ∙ long) in
     g .answers ∙ ap (λ b. valueAfter s b values r i c) (sym head-bytes)
     ∙ unless-passes 2 _ 0 _ (there-indices e r i c (x .indexed))
     ∙ sym (opened-goes 2 s _ (x .opens)) ∙ w .answers ∙ ap (given s e values r i c 0) (sym value-bytes)

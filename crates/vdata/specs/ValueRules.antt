@@ -10,6 +10,7 @@ use Rattle.answer.specs.Search.{Hit, hit}
 use Rattle.answer.specs.Rules.{Rules, done, rule}
 use Rattle.wire.specs.Numbers.{be}
 use Rattle.directory.specs.Opening.{openOf}
+use Rattle.directory.specs.Rules.{IsStored}
 use Rattle.directory.specs.Lookup.{find}
 use Rattle.storage.specs.Elements.{extendedAt}
 use Rattle.records.specs.Readings.{recordBytes}
@@ -51,10 +52,11 @@ pub record ValueIs (e v : List ℕ) (r i c kind bits : ℕ) : Type 0 where
 
 -- ---- Which values are given
 
--- the element is there, in plain storage
+-- the element is there, stored, in plain storage
 pub record InPlain (s : List ℕ) (tag ref : ℕ) : Type 0 where
   pub slot : ℕ
   pub found : find s tag ref ≡ hit slot
+  pub stored : IsStored s slot
   pub plain : extendedAt s slot ≡ false
 
 -- an image that opens, with a head that breaks no rule, a value of these indices, and values at least as long as all records
@@ -68,7 +70,7 @@ pub record Readable (s : List ℕ) (ref r i c : ℕ) : Type 0 where
 
 -- ---- The rules, in the order in which they are judged
 
--- after a sound head of the bytes e: a record, a field and a component that there are, then values that are there, in plain storage, at least as
+-- after a sound head of the bytes e: a record, a field and a component that there are, then values that are there, stored, in plain storage, at least as
 -- long as all records
 abbrev pub afterRules : List ℕ → List ℕ → Hit → ℕ → ℕ → ℕ → Rules
 afterRules s e values r i c =

@@ -17,12 +17,14 @@ use Rattle.answer.specs.Search.{hit}
 use Rattle.directory.specs.Slots.{contentAt}
 use Rattle.directory.specs.Opening.{openOf}
 use Rattle.directory.specs.Lookup.{find}
+use Rattle.directory.specs.Named.{NamedUnstored}
 use Rattle.storage.specs.Elements.{startAt, startOf, extendedAt, plainOnly, offsetIn}
+use Rattle.storage.proofs.Elements.{content-stored}
 use Rattle.records.specs.Readings.{recordBytes}
 use Rattle.records.specs.Packings.{PacksBack}
 use Rattle.records.proofs.Readings.{record-granted, content-passes, content-bytes}
 use Rattle.records.proofs.Packings.{packs-back}
-use Rattle.records.proofs.RecordRules.{by-exactly}
+use Rattle.records.proofs.RecordRules.{by-exactly, by-unstored}
 use Rattle.answer.proofs.Answer.{inRoom-enough, inRoom-passed}
 use Rattle.vset.specs.Columns.{rows2}
 use Rattle.vset.specs.Tails.{tail}
@@ -78,7 +80,7 @@ pub group-reads : (members name class : List ℕ) (x : Ending) → Packable memb
 unfolding groupOf groupAt
 group-reads members name class x q s ref p sound found plain rest is room fits =
     let b = read-back members name class x (pack-passed _ _ _ _ (q .sound)) (q .narrow) (q .named) (q .classed) (q .ending) (contentAt s p) rest is in
-    let g = content-passes 9 s group-tag ref groupFault _ p sound found plain (b .sound) in
+    let g = content-passes 9 s group-tag ref groupFault _ p sound found (content-stored s p (b .not-empty)) plain (b .sound) in
     record {
       answers =
           g .answers
@@ -97,6 +99,10 @@ module _ (s : List ℕ) (ref room : ℕ) where
 
   pub group-read-refused : (n p : ℕ) → ((groupOf s ref room ≡ refuse 9 n p) × (n ≡ 0 → ⊥)) ↔ FirstBroken (groupReadRules s ref room) n p
   group-read-refused = by-exactly 9 _ _ (group-read-by s ref room) .1
+
+  -- 29 exactly if it is named and not stored yet
+  pub group-read-unstored : (p : ℕ) → (groupOf s ref room ≡ refuse 9 29 p) ↔ NamedUnstored s 1965 ref p
+  group-read-unstored = by-unstored 9 _ s 1965 ref _ (group-read-by s ref room) (omega arith, (omega arith, tt))
 
 -- ---- What is told
 

@@ -85,6 +85,7 @@ module _ (members name class : List ℕ) (x : Ending) where
 
   -- what reading the bytes e gives back
   pub record ReadBack (e : List ℕ) : Type 0 where
+    pub not-empty : 0 < length e
     pub read-is : groupIn e ≡ packed
     pub sound : groupFault e ≡ 0
     pub members-are : groupMembers e ≡ members
@@ -126,6 +127,7 @@ module _ (members name class : List ℕ) (x : Ending) where
         ap (λ k. tailIn e (2 + 4 * k)) (sym count) ∙ sym (tail-after e) ∙ ap (λ g. g .tail) r in
         let parts = tail-parts (λ t. t) e (2 + 4 * n) name class x _ t (omega (arith, inside, ap (λ g. g .tail .end) r)) (refs .1) in
         record {
+          not-empty = omega (arith, inside, ap (λ g. g .tail .end) r);
           read-is = r;
           sound = group-sound e inside (ap (λ g. g .tail .version) r ∙ rules .sound .version-right);
           members-are =

@@ -1,31 +1,36 @@
 -- What a reader wants to know of a listing: what is listed and in which order, when a group is sound, when a listing is granted and else how
 -- it is refused, that it is no longer than its table, and that members none of which is a group are listed as they stand. Assumes nothing.
 use Prim.Native.Nat.{ℕ, zero, suc, _*_, _/_, _<_, _≤_}
+use native.Mathlib.Nat.{suc-ne-zero}
 use native.Mathlib.Omega.{arith}
 use mathlib.Core.Path.{_≡_, refl, sym, ap, _∙_}
-use mathlib.Core.Logic.{_↔_, inl, inr}
+use mathlib.Core.Logic.{_↔_, _⊎_, inl, inr}
 use mathlib.Core.List.{List, [], _∷_, _++_}
 use lib.ListN.{length, getD}
-use Rattle.answer.specs.Rules.{FirstBroken}
+use Rattle.answer.specs.Rules.{done, FirstBroken}
 use Rattle.answer.specs.Answer.{grant, refuse, unless}
 use Rattle.answer.proofs.Answer.{unless-passes, unless-stops}
 use Rattle.wire.specs.Numbers.{part}
 use Rattle.directory.specs.Opening.{openOf}
 use Rattle.directory.specs.Lookup.{find}
+use Rattle.directory.specs.Rules.{Unstored}
+use Rattle.directory.specs.Named.{Named}
 use Rattle.directory.proofs.Opens.{opened-goes, opened-stops, opened-passed}
 use Rattle.storage.specs.declared.element.Located.{Located}
 use Rattle.storage.specs.declared.element.Located.the-variants.{Plain, Refused}
 use Rattle.vgroup.specs.Limits.{group-tag, most-groups}
 use Rattle.vgroup.specs.Groups.{groupMembers, soundGroup}
 use Rattle.vgroup.specs.Listings.{Listing, pair, membersFrom, entered, listFrom, placesIn, listingIn, listingAt, listingOf, pairsOf}
+use Rattle.answer.proofs.Tests.{same?}
 use Rattle.records.specs.RecordRules.{slotIn}
-use Rattle.vgroup.specs.GroupRules.{groupRules}
-use Rattle.vgroup.specs.ListRules.{membersOf, nestedIn, flat, listedOf, SoundGroup, Listable, ListFault}
+use Rattle.records.proofs.RecordRules.{first-unstored}
+use Rattle.vgroup.specs.GroupRules.{wholeRules, groupRules}
+use Rattle.vgroup.specs.ListRules.{membersOf, nestedIn, flat, listedOf, SoundGroup, Listable, nestedRules, AtPair, AtUnstored, ListFault}
 use Rattle.vgroup.proofs.Groups.{groupIn, length-members}
 use Rattle.vgroup.proofs.Listings.{listed-few}
 use Rattle.vgroup.proofs.GroupFacts.{stands-exactly}
 use Rattle.vgroup.proofs.ListFacts.{followed-other, followed-group, followed-append, members-none, members-other}
-use Rattle.vgroup.proofs.ListFaults.{listing-whole, listing-stops, listing-judged}
+use Rattle.vgroup.proofs.ListFaults.{when-broken, when-first, listing-whole, listing-stops, listing-judged}
 
 -- ---- What is listed, and in which order
 
@@ -116,6 +121,56 @@ module _ (s : List ℕ) (ref room : ℕ) where
     ]),
     refuses n p opens,
   )
+
+  -- 29 exactly if the named group is named and not stored yet, or the listing comes to such a group
+  pub list-unstored : openOf s .number ≡ 0 → (p : ℕ)
+      → (listingOf s ref room ≡ refuse 1 29 p) ↔ ((Named s 1965 ref p × Unstored s p) ⊎ (SoundGroup s ref × AtUnstored s ref room p))
+  list-unstored opens p =
+      let group = group-unstored opens p in (
+        (λ e. elim (list-refused opens 29 p .0 (e, suc-ne-zero 28)) [
+          | inl b ↦ inl (group ref .0 b)
+          | inr (sound, a) ↦ inr (sound, at-unstored opens p a)
+        ]),
+        (λ h. list-refused opens 29 p .1 (elim h [
+          | inl u ↦ inl (group ref .1 u)
+          | inr (sound, a) ↦ inr (
+            sound,
+            record {
+              pair = a .pair;
+              pairs = a .pairs;
+              comes = a .comes;
+              placed = (omega (arith, a .placed .0), omega (arith, a .placed .1));
+              broken = inr (a .placed, when-first (a .pair .tag ≡ 1965) (a .group) (nestedRules s (a .pair)) 29 p (inr (a .shallow, group (a .pair .ref) .1 (a .named, a .unstored))));
+            },
+          )
+        ]) .0),
+      )
+    where
+      group-unstored : openOf s .number ≡ 0 → (p r : ℕ) → FirstBroken (groupRules s (find s 1965 r)) 29 p ↔ (Named s 1965 r p × Unstored s p)
+      group-unstored opens p r = first-unstored s 1965 r p opens (wholeRules s (find s 1965 r) done) (omega arith, tt)
+
+      at-unstored : openOf s .number ≡ 0 → (p : ℕ) → AtPair s ref room 29 p → AtUnstored s ref room p
+      at-unstored opens p a =
+          elim (a .broken) [
+            | inl x ↦ absurd (omega (arith, x .0))
+            | inr (placed, b) ↦
+                let g = when-broken (a .pair .tag ≡ 1965) (same? (a .pair .tag) 1965) (nestedRules s (a .pair)) 29 p b in
+                elim (g .1) [
+                  | inl x ↦ absurd (omega (arith, x .0))
+                  | inr (shallow, c) ↦
+                      let u = group-unstored opens p (a .pair .ref) .0 c in
+                      record {
+                        pair = a .pair;
+                        pairs = a .pairs;
+                        comes = a .comes;
+                        placed = placed;
+                        group = g .0;
+                        shallow = shallow;
+                        named = u .0;
+                        unstored = u .1;
+                      }
+                ]
+          ]
 
 -- ---- How long it is, and members that are no groups
 

@@ -26,13 +26,13 @@ use Rattle.vgroup.proofs.ListFacts.{Enters, all-none, all-more, members
 -- ---- Where a rule is broken
 
 module _ (Applies : Type 0) where
-  when-broken : Applies ⊎ (Applies → ⊥) → (R : Rules) (n p : ℕ) → FirstBroken (when Applies R) n p → Applies × FirstBroken R n p
+  pub when-broken : Applies ⊎ (Applies → ⊥) → (R : Rules) (n p : ℕ) → FirstBroken (when Applies R) n p → Applies × FirstBroken R n p
   when-broken decided done n p b = absurd b
   when-broken decided (rule number place Holds rest) n p (inl b) =
       elim decided [ inl a ↦ (a, inl (b .0, b .1, λ h. b .2 (λ k. h))) | inr z ↦ absurd (b .2 (λ a. absurd (z a))) ]
   when-broken decided (rule number place Holds rest) n p (inr b) = let r = when-broken decided rest n p (b .1) in (r .0, inr (b .0 (r .0), r .1))
 
-  when-first : Applies → (R : Rules) (n p : ℕ) → FirstBroken R n p → FirstBroken (when Applies R) n p
+  pub when-first : Applies → (R : Rules) (n p : ℕ) → FirstBroken R n p → FirstBroken (when Applies R) n p
   when-first a done n p b = absurd b
   when-first a (rule number place Holds rest) n p (inl b) = inl (b .0, b .1, λ h. b .2 (h a))
   when-first a (rule number place Holds rest) n p (inr b) = inr ((λ k. b .0), when-first a rest n p (b .1))

@@ -14,12 +14,16 @@ use Rattle.directory.specs.Faults.{openedRules}
 use Rattle.records.specs.RecordRules.{slotIn, plainRules}
 use Rattle.vgroup.specs.Groups.{group}
 
--- it is there, in plain storage, its last field ends among its bytes, and its version is 3; then what is asked after these
-abbrev pub soundRules : List ℕ → Hit → Rules → Rules
-soundRules s found rest =
+-- its last field ends among its bytes, and its version is 3; then what is asked after these
+abbrev pub wholeRules : List ℕ → Hit → Rules → Rules
+wholeRules s found rest =
     let e = recordBytes s found in
     let tail = read group e 0 .tail in
-    plainRules s found (rule 15 (slotIn found) ((tail .end ≤ length e) × (tail .version ≡ 3)) rest)
+    rule 15 (slotIn found) ((tail .end ≤ length e) × (tail .version ≡ 3)) rest
+
+-- before these: it is there, stored, in plain storage
+abbrev pub soundRules : List ℕ → Hit → Rules → Rules
+soundRules s found rest = plainRules s found (wholeRules s found rest)
 
 abbrev pub groupRules : List ℕ → Hit → Rules
 groupRules s found = soundRules s found done

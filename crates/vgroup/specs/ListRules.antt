@@ -9,6 +9,8 @@ use lib.Dec.{eqb}
 use Rattle.answer.specs.Search.{In}
 use Rattle.answer.specs.Rules.{Rules, done, rule, AllHold, FirstBroken}
 use Rattle.directory.specs.Lookup.{find}
+use Rattle.directory.specs.Rules.{Unstored}
+use Rattle.directory.specs.Named.{Named}
 use Rattle.records.specs.Readings.{recordBytes}
 use Rattle.records.specs.RecordRules.{slotIn}
 use Rattle.vgroup.specs.Groups.{groupMembers}
@@ -118,6 +120,17 @@ pub record AtPair (s : List ℕ) (ref room n p : ℕ) : Type 0 where
   pub comes : Comes s pair (16 - 1) (slotIn (find s 1965 ref)) (membersOf s ref) pairs
   pub placed : HasPlace room pairs
   pub broken : FirstBroken (pairRules s (HasPlace room (suc pairs)) pair) n p
+
+-- the listing comes to a group that is named and not stored yet: those before it have their places, it has one too, and may be entered
+pub record AtUnstored (s : List ℕ) (ref room p : ℕ) : Type 0 where
+  pub pair : Pair
+  pub pairs : ℕ
+  pub comes : Comes s pair (16 - 1) (slotIn (find s 1965 ref)) (membersOf s ref) pairs
+  pub placed : HasPlace room (suc pairs)
+  pub group : pair .tag ≡ 1965
+  pub shallow : 0 < pair .more
+  pub named : Named s 1965 (pair .ref) p
+  pub unstored : Unstored s p
 
 -- the first rule that is broken has this number and this place: one of the named group, else one at a pair
 abbrev pub ListFault : List ℕ → ℕ → ℕ → ℕ → ℕ → Type 0

@@ -14,6 +14,7 @@ use Rattle.directory.specs.Slots.{contentAt}
 use Rattle.directory.specs.Opening.{openOf}
 use Rattle.directory.specs.Lookup.{find}
 use Rattle.storage.specs.Elements.{extendedAt, startAt, plainOnly, offsetIn, startOf}
+use Rattle.storage.proofs.Elements.{content-stored}
 use Rattle.records.specs.Readings.{recordBytes}
 use Rattle.records.specs.Packings.{PacksBack}
 use Rattle.records.proofs.Readings.{record-granted, content-passes, content-bytes}
@@ -80,7 +81,7 @@ pub head-reads : (b : Start) (rows lengths all name class : List ℕ) (x : Endin
 unfolding headWithin headAt
 head-reads b rows lengths all name class x q s ref p opens found plain rest is fields-room names-room fr nr =
     let r = read-back b rows lengths all name class x (pack-passed _ _ _ _ _ _ _ (q .sound)) (q .records) (q .record-size) (q .narrow) (q .short) (q .told) (q .named) (q .classed) (q .ending) (contentAt s p) rest is in
-    let g = content-passes 12 s head-tag ref headFault _ p opens found plain (r .sound) in
+    let g = content-passes 12 s head-tag ref headFault _ p opens found (content-stored s p (omega (arith, r .inside))) plain (r .sound) in
     let o : startOf s (find s head-tag ref) ≡ startAt s p = ap (λ y. offsetIn (plainOnly y)) (g .found .is) in
     let within = found-within s head-tag ref p _ _ (g .found) in
     record {

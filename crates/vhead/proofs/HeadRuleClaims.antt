@@ -9,22 +9,23 @@ use lib.ListN.{length, getD, take}
 use lib.Dec.{leb}
 use borrow.Author.Tests.{leb-true, le-leb}
 use Rattle.answer.specs.Answer.{grant, refuse, inRoom}
-use Rattle.answer.specs.Rules.{done, rule, AllHold, FirstBroken}
+use Rattle.answer.specs.Rules.{Rules, done, rule, AllHold, FirstBroken}
 use Rattle.answer.proofs.Answer.{inRoom-passed}
 use Rattle.wire.specs.Numbers.{be}
 use Rattle.wire.specs.Layouts.{read, numbersAt}
 use Rattle.directory.specs.Lookup.{find}
+use Rattle.directory.specs.Named.{NamedUnstored}
 use Rattle.storage.specs.Elements.{startAt}
 use Rattle.records.specs.Readings.{recordBytes}
 use Rattle.records.proofs.Readings.{record-granted}
 use Rattle.vset.specs.Columns.{rows4}
 use Rattle.vset.specs.Tails.{tail, namesEnd}
-use Rattle.records.specs.RecordRules.{recordRules}
-use Rattle.records.proofs.RecordRules.{By, by-exactly, by-room, by-record}
+use Rattle.records.specs.RecordRules.{slotIn, recordRules}
+use Rattle.records.proofs.RecordRules.{By, by-exactly, by-unstored, by-room, by-record}
 use Rattle.vhead.specs.Heads.{head, headIn, headFault, headFields, headValues, headAt, headWithin, headOf}
 use Rattle.vhead.specs.HeadRules.{fieldCount, RowOf, headRules, headReadRules, headWithinRules}
 use Rattle.vhead.proofs.Heads.{head-is, fields-count, fields-are, length-fields, allFields}
-use Rattle.vhead.proofs.HeadRules.{by-head}
+use Rattle.vhead.proofs.HeadRules.{by-head, head-below}
 
 -- room for so many fields, said of the bytes
 module _ (s : List ℕ) (ref room : ℕ) (Room : List ℕ → Type 0) (is : (e : List ℕ) → (fieldCount e ≤ room) ↔ Room e) where
@@ -50,6 +51,13 @@ module _ (s : List ℕ) (ref fields names : ℕ) where
   pub head-refused : (n p : ℕ) → ((headOf s ref fields names ≡ refuse 12 n p) × (n ≡ 0 → ⊥)) ↔ FirstBroken (headReadRules s ref fields names) n p
   head-refused = by-exactly 12 _ _ read-by .1
 
+  -- 29 exactly if it is named and not stored yet
+  pub head-unstored : (p : ℕ) → (headOf s ref fields names ≡ refuse 12 29 p) ↔ NamedUnstored s 1962 ref p
+  head-unstored =
+      let e = recordBytes s (find s 1962 ref) in
+      let room : Rules = rule 14 0 ((4 * fieldCount e ≤ fields) × (2 * fieldCount e ≤ names)) done in
+      by-unstored 12 _ s 1962 ref _ read-by (head-below (slotIn (find s 1962 ref)) e room (omega arith, tt))
+
 module _ (s : List ℕ) (ref room : ℕ) where
   within-by : By 12 (headWithinRules s ref room) (headWithin s ref room)
   within-by = head-by s ref room (λ e. fieldCount e ≤ room) (λ e. ((λ l. l), (λ l. l)))
@@ -59,6 +67,11 @@ module _ (s : List ℕ) (ref room : ℕ) where
 
   pub head-within-refused : (n p : ℕ) → ((headWithin s ref room ≡ refuse 12 n p) × (n ≡ 0 → ⊥)) ↔ FirstBroken (headWithinRules s ref room) n p
   head-within-refused = by-exactly 12 _ _ within-by .1
+
+  pub head-within-unstored : (p : ℕ) → (headWithin s ref room ≡ refuse 12 29 p) ↔ NamedUnstored s 1962 ref p
+  head-within-unstored =
+      let e = recordBytes s (find s 1962 ref) in
+      by-unstored 12 _ s 1962 ref _ within-by (head-below (slotIn (find s 1962 ref)) e (rule 14 0 (fieldCount e ≤ room) done) (omega arith, tt))
 
 -- ---- What is told
 

@@ -14,6 +14,7 @@ use borrow.Author.Tests.{leb-true, le-leb, eqb-true, eq-eqb}
 use Rattle.answer.specs.Answer.{Answer, unless}
 use Rattle.answer.specs.Rules.{Rules}
 use Rattle.answer.proofs.Tests.{same?, and-split, and-both}
+use Rattle.answer.proofs.Rules.{Below}
 use Rattle.wire.specs.Layouts.{extent}
 use Rattle.records.specs.Types.{widthOf, KnownType}
 use Rattle.records.specs.Readings.{within}
@@ -148,3 +149,7 @@ by-head k p e a rest g =
     by-must k p _ _ _ _ _ _ (rw h (typed-is (numbersIn e) (fieldCount e))) (λ known.
     by-must k p _ _ _ _ _ _ (rw h (sizes-are e known)) (λ measured.
     by-rest k p a rest g)))))))
+
+-- none of its rules has a number of 29 or past it
+pub head-below : (p : ℕ) (e : List ℕ) (rest : Rules) → Below 29 rest → Below 29 (headRules p e rest)
+head-below p e rest b = (omega arith, (omega arith, (omega arith, (omega arith, (omega arith, (omega arith, (omega arith, b)))))))

@@ -1,5 +1,5 @@
-//! Replacing, removing and empty data, on file A and on file A with an extended element: the file after each edit, every byte,
-//! written down from the paper. All edits are undone, which gives back each file before.
+//! Replacing, removing and empty data, on file A and on file A with an element that is extended, or not stored yet, or both: the
+//! file after each edit, every byte, written down from the paper. All edits are undone, which gives back each file before.
 
 use super::edits::{granted, refused, Steps};
 use super::pieces::hex;
@@ -55,6 +55,41 @@ const EXTENDED_REMOVED: &str = "0e031301 0002 00000000
     000100000000000000000000 000100000000000000000000 687562
     0000000a 0000000c 406400010000002200000003 00000025 00000000 4241434b";
 
+/// File A with 100/1 not stored yet. Its three bytes are nobody's.
+const UNSTORED: &str = "0e031301 0002 00000000
+    00640001ffffffffffffffff 000100000000000000000000 687562";
+
+const UNSTORED_REPLACED: &str = "0e031301 0002 00000000
+    006400010000002500000005 000100000000000000000000 687562 6465706f74
+    0000000a 0000000c 00640001ffffffffffffffff 00000025 00000000 4241434b";
+
+/// Replaced by no bytes: it is stored then, and empty.
+const UNSTORED_EMPTIED: &str = "0e031301 0002 00000000
+    006400010000000000000000 000100000000000000000000 687562
+    0000000a 0000000c 00640001ffffffffffffffff 00000025 00000000 4241434b";
+
+const UNSTORED_REMOVED: &str = "0e031301 0002 00000000
+    000100000000000000000000 000100000000000000000000 687562
+    0000000a 0000000c 00640001ffffffffffffffff 00000025 00000000 4241434b";
+
+/// Then added again, in the slot that was freed: the data at 69, the trailer names the one at 37.
+const UNSTORED_ADDED: &str = "0e031301 0002 00000000
+    006400010000004500000001 000100000000000000000000 687562
+    0000000a 0000000c 00640001ffffffffffffffff 00000025 00000000 4241434b 2a
+    0000000a 0000000c 000100000000000000000000 00000045 00000025 4241434b";
+
+/// File A with 100/1 extended and not stored yet.
+const BOTH: &str = "0e031301 0002 00000000
+    40640001ffffffffffffffff 000100000000000000000000 687562";
+
+const BOTH_REPLACED: &str = "0e031301 0002 00000000
+    006400010000002500000005 000100000000000000000000 687562 6465706f74
+    0000000a 0000000c 40640001ffffffffffffffff 00000025 00000000 4241434b";
+
+const BOTH_REMOVED: &str = "0e031301 0002 00000000
+    000100000000000000000000 000100000000000000000000 687562
+    0000000a 0000000c 40640001ffffffffffffffff 00000025 00000000 4241434b";
+
 /// A case: its name, the file at first, and edits with length and bytes of the file after each.
 type Case<'a> = (&'a str, &'a str, Vec<(Request, u64, &'a str)>);
 
@@ -63,8 +98,9 @@ pub fn check(tally: &mut Tally) -> Result<usize, String> {
     let replace = |data| edit(Kind::Replace, (100, 1), data);
     let remove = || edit(Kind::Remove, (100, 1), b"");
     let add = |data| edit(Kind::Add, (40000, 5), data);
+    let again = edit(Kind::Add, (100, 1), b"*");
     let replaced = (replace(b"depot"), 74, REPLACED);
-    let cases: [Case; 7] = [
+    let cases: [Case; 12] = [
         ("an element replaced", A, vec![replaced.clone()]),
         ("an element replaced twice", A, vec![replaced, (replace(b"*"), 107, REPLACED_TWICE)]),
         ("an element replaced by no bytes", A, vec![(replace(b""), 69, EMPTIED)]),
@@ -72,6 +108,15 @@ pub fn check(tally: &mut Tally) -> Result<usize, String> {
         ("an element of no bytes added", A, vec![(add(b""), 69, EMPTY_ADDED)]),
         ("an extended element replaced", EXTENDED, vec![(replace(b"depot"), 74, EXTENDED_REPLACED)]),
         ("an extended element removed", EXTENDED, vec![(remove(), 69, EXTENDED_REMOVED)]),
+        ("an unstored element replaced", UNSTORED, vec![(replace(b"depot"), 74, UNSTORED_REPLACED)]),
+        ("an unstored element emptied", UNSTORED, vec![(replace(b""), 69, UNSTORED_EMPTIED)]),
+        (
+            "an unstored element added again",
+            UNSTORED,
+            vec![(remove(), 69, UNSTORED_REMOVED), (again, 102, UNSTORED_ADDED)],
+        ),
+        ("an unstored extended element replaced", BOTH, vec![(replace(b"depot"), 74, BOTH_REPLACED)]),
+        ("an unstored extended element removed", BOTH, vec![(remove(), 69, BOTH_REMOVED)]),
     ];
     cases.iter().try_for_each(|case| play(case, tally))?;
     Ok(cases.len())

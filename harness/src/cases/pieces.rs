@@ -5,6 +5,9 @@ use crate::reader::{FIRST_BYTES, FREE};
 /// A slot that is free.
 pub const FREE_SLOT: [u8; 12] = slot(FREE, 0, 0, 0);
 
+/// Offset and length of an element that is not stored yet.
+pub const ALL_ONES: u32 = 4_294_967_295;
+
 /// Where the first block names the next one, and where its first slot stands.
 pub const NEXT: usize = 6;
 pub const FIRST_SLOT: usize = 10;
@@ -50,6 +53,11 @@ pub const fn slot(tag: u16, reference: u16, offset: u32, length: u32) -> [u8; 12
     let ([a, b], [c, d]) = (tag.to_be_bytes(), reference.to_be_bytes());
     let ([e, f, g, h], [i, j, k, l]) = (offset.to_be_bytes(), length.to_be_bytes());
     [a, b, c, d, e, f, g, h, i, j, k, l]
+}
+
+/// A slot with the reference 1 whose element is not stored yet.
+pub const fn unstored(tag: u16) -> [u8; 12] {
+    slot(tag, 1, ALL_ONES, ALL_ONES)
 }
 
 /// The trailer of an edit: place altered, bytes altered, old bytes, length before, and place of the previous trailer.
@@ -144,6 +152,12 @@ impl Image {
     /// Another length of a slot's element, whose bytes stay where they are.
     pub fn put_length(&mut self, slot: usize, length: u32) {
         self.put32(slot + LENGTH, length);
+    }
+
+    /// The element of a slot is not stored yet.
+    pub fn unstore(&mut self, slot: usize) {
+        self.put_offset(slot, ALL_ONES);
+        self.put_length(slot, ALL_ONES);
     }
 
     /// A number at a place in a slot's element.

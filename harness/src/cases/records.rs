@@ -57,7 +57,7 @@ fn dimension() -> Case {
 }
 
 fn array() -> Case {
-    let image = files::image("cleared_ranks.hdf")?;
+    let image = files::image("sds_ranks.hdf")?;
     let (mut sizes, mut pairs) = ([9; 5], [9; 11]);
     let a = library::read_array(&image, 40, &mut sizes, &mut pairs);
     same("array", [a.number, a.place, a.rank], [0, 0, 4])?;

@@ -70,6 +70,9 @@ const OPENING: [Fault; 3] = [
     fault("7", "a first slot of tag 0", [7, 10], |ask| ask.image.put_tag(FIRST_SLOT, 0)),
 ];
 
+/// The element that is read is named and not stored yet. Its slot stands at 22, behind a free one.
+const UNSTORED: [Fault; 1] = [fault("29", "an element that is not stored yet", [29, 22], |ask| ask.image.unstore(22))];
+
 /// Holds all cases against library and reader, and the cases against the list. Answers how many there are, and for how many
 /// entries of the list.
 pub fn check() -> Result<[usize; 2], String> {
@@ -131,6 +134,26 @@ fn in_order(of: &'static str, first: (&'static str, Ask, [u64; 2]), mended: (&'s
 fn over(faults: &[Fault], cases: &[Case]) -> Vec<Case> {
     let single = cases.iter().filter(|case| case.steps.len() == 1);
     single.flat_map(|case| faults.iter().map(|fault| fault.over(case))).collect()
+}
+
+/// Two of the faults at once, each before each of those behind it.
+fn two_at_once(faults: &[Fault], cases: &[Case]) -> Vec<Case> {
+    (1..faults.len()).flat_map(|at| over(&faults[..at], &over(&faults[at..=at], cases))).collect()
+}
+
+/// What is judged of the element at 22 before its bytes: that it is there, that it is stored, and that it is plain. Behind are
+/// cases of what is judged later.
+fn element_first(absent: &[Fault], extended: &[Fault], read: &[Case], behind: &[Case]) -> Vec<Case> {
+    let not_plain = over(extended, read);
+    [
+        over(absent, read),
+        over(&UNSTORED, read),
+        over(&UNSTORED, &not_plain),
+        over(&UNSTORED, behind),
+        over(extended, behind),
+        not_plain,
+    ]
+    .concat()
 }
 
 /// The cases, and those of one call with each of the faults.

@@ -2,7 +2,7 @@
 
 use super::{differ, Outcome, Pairs, Trial};
 use crate::random::Random;
-use crate::reader::{base_tag, Directory, Refusal, EXTENDED, SMALL};
+use crate::reader::{base_tag, Directory, Refusal, Slot, EXTENDED, SMALL};
 use crate::tally::Call;
 use hdf4_sys::{self as library, Answer, FindAnswer, ListAnswer, OpenAnswer};
 
@@ -40,7 +40,15 @@ pub fn expected_open(directory: &Result<Directory, Refusal>) -> OpenAnswer {
 fn compare_open(trial: &mut Trial) -> Outcome {
     let library = library::open(trial.lent.image());
     let reader = expected_open(&trial.directory);
+    if has_unstored(&trial.directory) {
+        trial.tally.count_unstored(Call::Open);
+    }
     trial.same(Call::Open, &[], library, reader)
+}
+
+/// Whether the image opens and names an element that is not stored yet.
+fn has_unstored(directory: &Result<Directory, Refusal>) -> bool {
+    directory.as_ref().is_ok_and(|directory| directory.live().any(Slot::is_unstored))
 }
 
 /// Rooms for the list: exactly enough, too little in two ways where that is possible, and more than enough.
@@ -67,6 +75,9 @@ fn compare_list(trial: &mut Trial, room: usize) -> Outcome {
     if memory != expected {
         return differ(Call::List, &[room], format!("wrote {memory:?}"), format!("wrote {expected:?}"));
     }
+    if !written.is_empty() && has_unstored(&trial.directory) {
+        trial.tally.count_unstored(Call::List);
+    }
     Ok(())
 }
 
@@ -87,6 +98,10 @@ pub fn expected_list(directory: &Result<Directory, Refusal>, room: usize) -> (Li
 fn compare_find(trial: &mut Trial, tag: u16, reference: u16) -> Outcome {
     let library = library::find(trial.lent.image(), tag, reference);
     let reader = expected_find(&trial.directory, tag, reference);
+    let found = trial.directory.as_ref().ok().and_then(|directory| directory.slot(tag, reference));
+    if found.is_some_and(Slot::is_unstored) {
+        trial.tally.count_unstored(Call::Find);
+    }
     trial.same(Call::Find, &[tag.into(), reference.into()], library, reader)
 }
 

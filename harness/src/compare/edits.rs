@@ -1,9 +1,10 @@
 //! Edits and undo: each call by library, editor and history, and the whole buffer compared after it.
 
 use super::Difference;
-use crate::editor::{self, Kind, Refused, Request};
+use crate::editor::{self, Kind, Refused, Request, Trailer};
 use crate::history::History;
 use crate::lent::surround;
+use crate::reader::slot_at;
 use crate::tally::{Call, Tally};
 use hdf4_sys::{self as library, Answer, EditAnswer};
 use std::fmt;
@@ -75,10 +76,18 @@ impl Lending {
             return Err(differ(request, "altered bytes around the buffer".into(), "editor", "left them".into()));
         }
         tally.count(request.call(), library.number);
-        if let Err(refused) = made {
-            tally.count_reason(request.call(), refused.reason);
+        match made {
+            Err(refused) => tally.count_reason(request.call(), refused.reason),
+            Ok(file) if self.altered_unstored(file.len().max(n as usize)) => tally.count_unstored(request.call()),
+            Ok(_) => {}
         }
         Ok(library)
+    }
+
+    /// Whether the trailer that ends there, left by an edit or used by an undo, has the bytes of a slot whose element is not
+    /// stored yet.
+    fn altered_unstored(&self, end: usize) -> bool {
+        slot_at(&Trailer::of(&self.buffer()[..end]).old, 0).is_unstored()
     }
 }
 

@@ -3,11 +3,11 @@
 
 use super::draft::{absurd_offset, well_formed, Draft, Size, SLOT_SIZE};
 use crate::random::Random;
-use crate::reader::{base_tag, EXTENDED, FREE, MACHINE_TYPE};
+use crate::reader::{base_tag, EXTENDED, FREE, MACHINE_TYPE, UNSTORED};
 
 type Damage = fn(&mut Random, &mut Draft);
 
-const DAMAGES: [Damage; 24] = [
+const DAMAGES: [Damage; 26] = [
     cut_short,
     other_first_bytes,
     count_a_little_more,
@@ -27,8 +27,10 @@ const DAMAGES: [Damage; 24] = [
     element_on_a_block,
     element_beside_a_block,
     element_empty,
-    element_set_aside,
+    element_unstored,
+    element_almost_unstored,
     pair_twice,
+    pair_twice_unstored,
     machine_type_twice,
     pair_almost_twice,
     bytes_flipped,
@@ -231,15 +233,40 @@ fn element_empty(random: &mut Random, draft: &mut Draft) {
     put_element(random, draft, offset, 0);
 }
 
-/// All-ones offset, length or both.
-fn element_set_aside(random: &mut Random, draft: &mut Draft) {
-    let (offset, length) = random.pick(&[(u32::MAX, u32::MAX), (u32::MAX, 1), (4, u32::MAX), (0, u32::MAX)]);
+/// An element that is not stored yet, or a machine type with the same fields, which is empty.
+fn element_unstored(random: &mut Random, draft: &mut Draft) {
+    let Some(slot) = any_slot(random, draft) else { return };
+    draft.put_element(slot, UNSTORED, UNSTORED);
+    if random.once_in(6) {
+        draft.put_tag(slot, random.pick(&[MACHINE_TYPE, MACHINE_TYPE + EXTENDED]));
+    }
+}
+
+/// An offset or a length of all ones, the other one not quite or far from it.
+fn element_almost_unstored(random: &mut Random, draft: &mut Draft) {
+    let n = draft.bytes.len() as u32;
+    let other = random.pick(&[0, 1, 4, n, 1 << 31, UNSTORED - 1, UNSTORED - 1]);
+    let (offset, length) = random.pick(&[(UNSTORED, other), (other, UNSTORED)]);
     put_element(random, draft, offset, length);
 }
 
 /// Gives a slot the pair of a slot before it, at times in the other form of its tag.
 fn pair_twice(random: &mut Random, draft: &mut Draft) {
+    if let Some((earlier, later)) = two_slots(random, draft) {
+        repeat_pair(random, draft, earlier, later);
+    }
+}
+
+/// The same, one of the two elements or both not stored yet.
+fn pair_twice_unstored(random: &mut Random, draft: &mut Draft) {
     let Some((earlier, later)) = two_slots(random, draft) else { return };
+    repeat_pair(random, draft, earlier, later);
+    for slot in random.pick(&[[earlier, earlier], [later, later], [earlier, later]]) {
+        draft.put_element(slot, UNSTORED, UNSTORED);
+    }
+}
+
+fn repeat_pair(random: &mut Random, draft: &mut Draft, earlier: usize, later: usize) {
     let base = base_tag(draft.get16(earlier).unwrap_or(0));
     let extended = if base < EXTENDED { base + EXTENDED } else { base };
     let tag = random.pick(&[base, extended]);

@@ -1,7 +1,7 @@
 //! Well-formed files, laid out at random: blocks in any order, with or without bytes between them.
 
 use crate::random::Random;
-use crate::reader::{base_tag, EXTENDED, FIRST_BYTES, FREE, MACHINE_TYPE, MOST_BLOCKS, MOST_SLOTS};
+use crate::reader::{base_tag, EXTENDED, FIRST_BYTES, FREE, MACHINE_TYPE, MOST_BLOCKS, MOST_SLOTS, UNSTORED};
 use std::collections::HashSet;
 use std::ops::Range;
 
@@ -162,10 +162,13 @@ fn pair(random: &mut Random) -> (u16, u16) {
     (if extended { tag + EXTENDED } else { tag }, reference)
 }
 
-/// Offset and length of an element that may stand: in a gap between blocks, or with no bytes at all.
+/// Offset and length of an element that may stand: in a gap between blocks, with no bytes at all, or not stored yet.
 fn element(random: &mut Random, draft: &Draft, gaps: &[Range<usize>], base: u16) -> (u32, u32) {
     if base == MACHINE_TYPE {
-        return (random.pick(&[0, 4, u32::MAX]), random.pick(&[0, 1, u32::MAX]));
+        return (random.pick(&[0, 4, UNSTORED]), random.pick(&[0, 1, UNSTORED]));
+    }
+    if random.once_in(10) {
+        return (UNSTORED, UNSTORED);
     }
     if gaps.is_empty() || random.once_in(6) {
         return (absurd_offset(random, draft), 0);

@@ -127,7 +127,7 @@ fn plan(random: &mut Random, shape: &Shape) -> Plan {
     let tag = random.pick(&[100, 302, 702, 1963]) + EXTENDED;
     let mut plan = Plan {
         layout: shape.layout,
-        record: Part { tag, reference, bytes: record(shape, table_names[0]) },
+        record: Part::new(tag, reference, record(shape, table_names[0])),
         tables: (0..shape.tables).map(|index| table(random, shape, table_names, &entries, index)).collect(),
         blocks: (0..shape.blocks).map(|index| block(random, shape, block_names, index)).collect(),
         others: others(random),
@@ -169,7 +169,7 @@ fn table(random: &mut Random, shape: &Shape, tables: &[u16], blocks: &[u16], ind
         let more = random.between(1, 5);
         bytes.extend(random.bytes(more));
     }
-    Part { tag: LINK_TAG, reference: tables[index], bytes }
+    Part::new(LINK_TAG, tables[index], bytes)
 }
 
 /// The block with an index: as many bytes as are taken from it, or more. The first one of a sparse element tells its length.
@@ -182,22 +182,23 @@ fn block(random: &mut Random, shape: &Shape, names: &[u16], index: usize) -> Par
         Layout::Sparse if index == 0 => shape.first_length,
         _ => random.pick(&[taken, taken, most, taken + more]),
     };
-    Part { tag: LINK_TAG, reference: names[index], bytes: random.bytes(size) }
+    Part::new(LINK_TAG, names[index], random.bytes(size))
 }
 
-/// A few elements beside the linked one, plain, empty or of another kind. They may clash, but seldom do.
+/// A few elements beside the linked one, plain, empty, of another kind or not stored yet. They may clash, but seldom do.
 fn others(random: &mut Random) -> Vec<Part> {
     let mut parts = Vec::new();
     for index in 0..random.below(4) {
         let tag = random.pick(&[101, 303, 703, 40000]) + index as u16;
         let extended = if tag < EXTENDED && random.once_in(3) { EXTENDED } else { 0 };
         let size = random.pick(&[0, 1, 3, 16, 22, 40]);
-        parts.push(Part { tag: tag + extended, reference: random.below(3) as u16, bytes: random.bytes(size) });
+        parts.push(Part::new(tag + extended, random.below(3) as u16, random.bytes(size)));
     }
     if random.once_in(6) {
         let extended = if random.once_in(2) { EXTENDED } else { 0 };
-        parts.push(Part { tag: MACHINE_TYPE + extended, reference: random.below(3) as u16, bytes: vec![0; 30] });
+        parts.push(Part::new(MACHINE_TYPE + extended, random.below(3) as u16, vec![0; 30]));
     }
+    parts.iter_mut().filter(|_| random.once_in(5)).for_each(Part::set_aside);
     parts
 }
 

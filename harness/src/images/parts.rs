@@ -2,13 +2,14 @@
 
 use super::draft::{absurd_offset, free_slot, lay_out, Draft, Slot};
 use crate::random::Random;
-use crate::reader::{EXTENDED, FREE};
+use crate::reader::{EXTENDED, FREE, UNSTORED};
 
 /// An element to be.
 pub struct Part {
     pub tag: u16,
     pub reference: u16,
     pub bytes: Vec<u8>,
+    is_set_aside: bool,
 }
 
 /// Lays the parts out in a file, in any order, with free slots among theirs.
@@ -30,17 +31,30 @@ pub fn lay(random: &mut Random, mut parts: Vec<Part>) -> Vec<u8> {
     draft.bytes
 }
 
-/// Appends the bytes of a part. An element of no bytes stands anywhere.
+/// Appends the bytes of a part, but of one that is set aside none. An element of no bytes stands anywhere.
 fn append(random: &mut Random, draft: &mut Draft, part: Part) -> Slot {
-    let offset = match part.bytes.len() {
+    let Part { tag, reference, bytes, is_set_aside } = part;
+    if is_set_aside {
+        return Slot { tag, reference, offset: UNSTORED, length: UNSTORED };
+    }
+    let offset = match bytes.len() {
         0 => absurd_offset(random, draft),
         _ => draft.bytes.len() as u32,
     };
-    draft.bytes.extend(&part.bytes);
-    Slot { tag: part.tag, reference: part.reference, offset, length: part.bytes.len() as u32 }
+    draft.bytes.extend(&bytes);
+    Slot { tag, reference, offset, length: bytes.len() as u32 }
 }
 
 impl Part {
+    pub fn new(tag: u16, reference: u16, bytes: Vec<u8>) -> Part {
+        Part { tag, reference, bytes, is_set_aside: false }
+    }
+
+    /// Names the element and does not store it yet.
+    pub fn set_aside(&mut self) {
+        self.is_set_aside = true;
+    }
+
     /// Gives the element the tag of extended storage.
     pub fn extend(&mut self) {
         if self.tag < EXTENDED && self.tag != FREE {

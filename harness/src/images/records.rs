@@ -57,7 +57,7 @@ pub fn image_of(random: &mut Random, record: &Record, mut bytes: Vec<u8>) -> Vec
         bytes.extend(random.bytes(more));
     }
     let (tag, reference) = (arguments::tag(random, record), random.below(3) as u16);
-    parts::lay(random, vec![Part { tag, reference, bytes }])
+    parts::lay(random, vec![Part::new(tag, reference, bytes)])
 }
 
 /// A record, and the data of a Vdata with it.
@@ -76,7 +76,7 @@ fn record(random: &mut Random, reference: u16) -> Vec<Part> {
         faults::spoil_pieces(random, &mut pieces);
     }
     let tag = arguments::tag(random, &record);
-    let mut parts = vec![Part { tag, reference, bytes: bytes_of(&pieces) }];
+    let mut parts = vec![Part::new(tag, reference, bytes_of(&pieces))];
     parts.extend(data);
     for _ in 0..random.below(faults + 1) {
         faults::spoil_parts(random, &mut parts);
@@ -98,7 +98,7 @@ fn data_of(random: &mut Random, vdata: &Vdata, reference: u16) -> Part {
         let more = random.between(1, 9);
         bytes.extend(random.bytes(more));
     }
-    Part { tag: DATA, reference, bytes }
+    Part::new(DATA, reference, bytes)
 }
 
 fn add_record(random: &mut Random, vdata: &Vdata, bytes: &mut Vec<u8>) {

@@ -4,7 +4,7 @@ use super::requests;
 use crate::editor::{self, Trailer, CLOSING, NEXT_BYTES, SLOT_BYTES, TRAILER_SIZE};
 use crate::images::accepted;
 use crate::random::Random;
-use crate::reader::{self, Directory, FREE, MOST_BYTES};
+use crate::reader::{self, Directory, EXTENDED, FREE, MACHINE_TYPE, MOST_BYTES, UNSTORED};
 
 /// A file after a few edits.
 pub fn edited(random: &mut Random, mut file: Vec<u8>) -> Vec<u8> {
@@ -55,19 +55,21 @@ fn spot(random: &mut Random, directory: &Directory, n: usize) -> (usize, usize) 
     random.pick(&spots)
 }
 
-/// Old bytes of a slot: as they are, free, free and ending like a trailer, another slot's, empty, or bad.
+/// Old bytes of a slot: as they are, free, free and ending like a trailer, another slot's, empty, not stored yet, or bad.
 fn old_slot(random: &mut Random, directory: &Directory, file: &[u8], place: usize) -> [u8; SLOT_BYTES] {
     let other = match directory.slots.len() {
         0 => place,
         slots => directory.slots[random.below(slots)].place as usize,
     };
-    let closing = u32::from_be_bytes(CLOSING) as usize;
-    let bytes = match random.below(7) {
+    let (closing, unstored) = (u32::from_be_bytes(CLOSING) as usize, UNSTORED as usize);
+    let bytes = match random.below(9) {
         0 | 1 => file[place..place + SLOT_BYTES].to_vec(),
         2 => editor::slot(FREE, 0, 0, 0),
         3 => editor::slot(FREE, 7, 9, closing),
         4 => file[other..other + SLOT_BYTES].to_vec(),
         5 => editor::slot(720, random.u16(), 0, 0),
+        6 => editor::slot(random.pick(&[720, 720 + EXTENDED, MACHINE_TYPE]), random.u16(), unstored, unstored),
+        7 => editor::slot(720, random.u16(), random.pick(&[9, unstored - 1]), unstored),
         _ => editor::slot(random.pick(&[0, 720, 16385]), random.u16(), random.below(9), random.pick(&[1, file.len()])),
     };
     bytes.try_into().expect("twelve bytes")
@@ -120,7 +122,7 @@ pub fn damaged(random: &mut Random, mut file: Vec<u8>) -> Vec<u8> {
 }
 
 fn damage(random: &mut Random, trailer: &mut Trailer, n: u32) {
-    match random.below(9) {
+    match random.below(10) {
         0 => trailer.before = length_too_large(random, n),
         1 => trailer.before = random.below(n as usize) as u32,
         2 => trailer.place = beside(random, trailer.place),
@@ -128,6 +130,7 @@ fn damage(random: &mut Random, trailer: &mut Trailer, n: u32) {
         4 => trailer.altered = other_count(random),
         5 => trailer.old[NEXT_BYTES + random.below(8)] ^= 1 << random.below(8),
         6 | 7 => trailer.previous = other_previous(random, trailer, n),
+        8 => trailer.old[NEXT_BYTES + random.pick(&[0, 0, 0, 1])..].fill(0xff),
         _ => trailer.old[..2].copy_from_slice(&random.pick(&[[0, 0], [0x40, 0], [0x40, 1], [0, 107], [2, 0xd0]])),
     }
 }

@@ -35,7 +35,7 @@
 use std::fmt::Debug;
 
 /// The version of the library.
-pub const VERSION: &str = "0.2.1";
+pub const VERSION: &str = "0.2.2";
 
 /// The most bytes that an image has.
 pub const MOST_BYTES: usize = 2_147_483_647;
@@ -130,14 +130,14 @@ pub const BAD_TRAILER: u64 = 21;
 /// Groups are nested past 16; the place is the slot of the 16th.
 pub const DEEP: u64 = 22;
 
-/// A table of the element's linked blocks is absent or extended, or its reference is 0; the index is the table's.
+/// A table of the element's linked blocks is absent, not stored or extended, or its reference is 0; the index is the table's.
 pub const NO_TABLE: u64 = 23;
 
 /// A table of the element's linked blocks has too few bytes for its entries; the index is the table's.
 pub const SHORT_TABLE: u64 = 24;
 
-/// A linked block is absent or extended, or its reference is 0 by a record of 22 bytes; the index is the block's, through the
-/// whole element.
+/// A linked block is absent, not stored or extended, or its reference is 0 by a record of 22 bytes; the index is the block's,
+/// through the whole element.
 pub const NO_BLOCK: u64 = 25;
 
 /// A linked block has fewer bytes than are taken from it; the index is the block's, through the whole element.
@@ -146,8 +146,11 @@ pub const SHORT_BLOCK: u64 = 26;
 /// A table of the element's linked blocks is one already walked, or a 257th; the index is the table's.
 pub const TABLE_LOOP: u64 = 27;
 
+/// The element is named and not stored yet: offset and length of its slot are 4294967295.
+pub const NOT_STORED: u64 = 29;
+
 /// The number and the name of each refusal and what it says, in words for a person.
-pub const REFUSALS: [(u64, &str, &str); 27] = [
+pub const REFUSALS: [(u64, &str, &str); 28] = [
     (TOO_LONG, "TOO_LONG", "the file is too long"),
     (NOT_HDF, "NOT_HDF", "this is no HDF4 file"),
     (DIR_CUT, "DIR_CUT", "a block of descriptors is not wholly inside the file"),
@@ -175,6 +178,7 @@ pub const REFUSALS: [(u64, &str, &str); 27] = [
     (NO_BLOCK, "NO_BLOCK", "a linked block of the element is not there"),
     (SHORT_BLOCK, "SHORT_BLOCK", "a linked block of the element is too short"),
     (TABLE_LOOP, "TABLE_LOOP", "the tables of the element's linked blocks repeat or run past 256"),
+    (NOT_STORED, "NOT_STORED", "the element is named in the directory and not stored yet"),
 ];
 
 /// What all answers have in common.
@@ -705,8 +709,9 @@ pub fn find(image: &[u8], tag: u16, reference: u16) -> FindAnswer {
     unsafe { hdf4_find(image.as_ptr(), image.len(), tag, reference) }
 }
 
-/// Lists the live slots in chain order to the front of a lent table: tag, reference, offset and length of each, as they are
-/// stored. A table of 4 times [`MOST_ELEMENTS`] entries is always enough.
+/// Lists the live slots in chain order to the front of a lent table: tag, reference, offset and length of each, as they stand in
+/// its slot. Offset and length of an element that is named and not stored yet are 4294967295; every call that reads it answers
+/// [`NOT_STORED`]. A table of 4 times [`MOST_ELEMENTS`] entries is always enough.
 #[inline]
 pub fn list(image: &[u8], table: &mut [u32]) -> ListAnswer {
     unsafe { hdf4_list(image.as_ptr(), image.len(), table.as_mut_ptr(), table.len()) }
@@ -930,7 +935,7 @@ pub fn read_value(image: &[u8], reference: u16, record: u64, field: u64, compone
 
 /// Lists the members of a Vgroup in order, each member of tag 1965 followed by its own members: tag and reference of each. There
 /// are at most [`MOST_PAIRS`] pairs, and at most 16 groups nested, the named one included. It keeps 576 bytes of stack, or 264
-/// and 352 for each group nested where that is more: 5,896 at the most.
+/// and 336 for each group nested where that is more: 5,632 at the most.
 #[inline]
 pub fn list_group(image: &[u8], reference: u16, list: &mut [u16]) -> GroupListAnswer {
     unsafe { hdf4_list_group(image.as_ptr(), image.len(), reference, list.as_mut_ptr(), list.len()) }

@@ -2,14 +2,31 @@
 
 use super::ask::{Ask, Written};
 use super::{fault, granted, over, with, Case, Fault, TOO_MANY_BYTES};
-use crate::cases::pieces::{block, file, image, slot, trailer, Image, FREE_SLOT};
+use crate::cases::pieces::{block, image, slot, trailer, unstored, Image, FREE_SLOT};
 use crate::tally::Call;
 
 /// The greatest length of a file.
 const MOST: usize = 2_147_483_647;
 
+/// Where 100/1 has its slot; and this slot: with its three bytes, not stored yet, and both extended and not stored yet.
+const SLOT: usize = 22;
+const PLAIN_100: [u8; 12] = slot(100, 1, 34, 3);
+pub const UNSTORED_100: [u8; 12] = unstored(100);
+pub const UNSTORED_16484: [u8; 12] = unstored(16484);
+
 const PRESENT: [Fault; 1] =
     [fault("18", "an element that is there", [18, 0], |ask| (ask.tag, ask.reference) = (100, 1))];
+
+const PRESENT_UNSTORED: [Fault; 2] = [
+    fault("18", "an element that is not stored yet", [18, 0], |ask| {
+        (ask.tag, ask.reference) = (100, 1);
+        ask.image.put(SLOT, &UNSTORED_100);
+    }),
+    fault("18", "an extended element that is not stored yet", [18, 0], |ask| {
+        (ask.tag, ask.reference) = (100, 1);
+        ask.image.put(SLOT, &UNSTORED_16484);
+    }),
+];
 
 const ABSENT: [Fault; 1] = [fault("11", "an element that is not there", [11, 0], |ask| ask.reference = 2)];
 
@@ -62,11 +79,18 @@ pub fn with_lengths(cases: Vec<Case>) -> Vec<Case> {
 
 /// The tag, the pair, the directory, the limit, the buffer.
 fn adds() -> Vec<Case> {
-    let added = [granted("an element", edit(Call::Add, (40000, 5), one_free()), &[70], Written::bytes(&one_added()))];
-    let (present, full, long) = (over(&PRESENT, &added), over(&FULL, &added), over(&TOO_LONG, &added));
+    let add = |of, slot| {
+        let (file, new) = (one_free_with(slot), one_added(slot));
+        granted(of, edit(Call::Add, (40000, 5), file), &[70], Written::bytes(&new))
+    };
+    let added = [add("an element", PLAIN_100)];
+    let (full, long) = (over(&FULL, &added), over(&TOO_LONG, &added));
+    let present = [over(&PRESENT, &added), over(&PRESENT_UNSTORED, &added)].concat();
     let room = [over(&NO_ROOM, &added), over(&LONGEST_DATA, &added)].concat();
     let later = [&full[..], &long, &room].concat();
     [
+        vec![add("an element beside one that is not stored yet", UNSTORED_100)],
+        over(&PRESENT_UNSTORED, &later[full.len()..]),
         over(&BAD_TAG, &added),
         over(&BAD_TAG[..1], &present),
         over(&BAD_TAG[..1], &later),
@@ -85,25 +109,30 @@ fn adds() -> Vec<Case> {
 
 /// The tag, the pair, the limit, the buffer.
 fn replacements() -> Vec<Case> {
-    let ask = edit(Call::Replace, (100, 1), one_free());
-    let slots = [FREE_SLOT, slot(100, 1, 37, 1)].concat();
-    let old = trailer(22, 12, slot(100, 1, 34, 3), 37, 0);
-    let file = image(&[&block(2, 0), &slots, b"hub", &[0x2a], &old]).bytes();
-    let replaced = [granted("an element", ask, &[70], Written::bytes(&file))];
-    let room = over(&LONGEST_DATA, &replaced);
+    let replace = |of, old| {
+        let ask = edit(Call::Replace, (100, 1), one_free_with(old));
+        granted(of, ask, &[70], Written::bytes(&replaced(old)))
+    };
+    let room = over(&LONGEST_DATA, &[replace("an element", PLAIN_100)]);
     let data = [over(&LONG_DATA, &room), over(&BAD_TAG[..1], &room), over(&ABSENT, &room), room];
-    [changes(replaced, &NO_ROOM), data.concat()].concat()
+    [changes(replace, &NO_ROOM), data.concat()].concat()
 }
 
 fn removals() -> Vec<Case> {
-    let ask = Ask { data: Image::default(), ..edit(Call::Remove, (100, 1), one_free()) };
-    let old = trailer(22, 12, slot(100, 1, 34, 3), 37, 0);
-    let file = image(&[&block(2, 0), &FREE_SLOT, &FREE_SLOT, b"hub", &old]).bytes();
-    changes([granted("an element", ask, &[69], Written::bytes(&file))], &NO_ROOM_TO_REMOVE)
+    let remove = |of, old| {
+        let ask = Ask { data: Image::default(), ..edit(Call::Remove, (100, 1), one_free_with(old)) };
+        granted(of, ask, &[69], Written::bytes(&removed(old)))
+    };
+    changes(remove, &NO_ROOM_TO_REMOVE)
 }
 
-/// What a replacement and a removal have in common.
-fn changes(changed: [Case; 1], no_room: &[Fault]) -> Vec<Case> {
+/// What a replacement and a removal have in common, given the slot of the element before it.
+fn changes(change: impl Fn(&'static str, [u8; 12]) -> Case, no_room: &[Fault]) -> Vec<Case> {
+    let changed = [
+        change("an element", PLAIN_100),
+        change("an element that is not stored yet", UNSTORED_100),
+        change("an extended element that is not stored yet", UNSTORED_16484),
+    ];
     let (absent, long, room) = (over(&ABSENT, &changed), over(&TOO_LONG, &changed), over(no_room, &changed));
     let later = [&absent[..], &long, &room].concat();
     [
@@ -125,7 +154,7 @@ fn last_blocks() -> Vec<Case> {
     let with_block = [&blocks(255, 1546)[..], &new_block(1744), &[0x2a], &last_block].concat();
     let last_slots = trailer(6, 4, [0; 12], 48970, 0);
     let with_slots = [&slots(4080, 48970)[..], &new_block(49168), &[0x2a], &last_slots].concat();
-    let add = |file: Vec<u8>| edit(Call::Add, (40000, 5), Image::from(file));
+    let add = |file| edit(Call::Add, (40000, 5), file);
     vec![
         granted("a 256th block", add(blocks(255, 0)), &[1777], Written::bytes(&with_block)),
         granted("the last 16 slots", add(slots(4080, 0)), &[49201], Written::bytes(&with_slots)),
@@ -133,19 +162,33 @@ fn last_blocks() -> Vec<Case> {
 }
 
 /// An edit with one byte of data, and room for it.
-fn edit(call: Call, (tag, reference): (u16, u16), file: Image) -> Ask {
-    Ask { tag, reference, data: Image::from(vec![0x2a]), behind: 300, ..Ask::on(call, file) }
+fn edit(call: Call, (tag, reference): (u16, u16), file: Vec<u8>) -> Ask {
+    Ask { tag, reference, data: Image::from(vec![0x2a]), behind: 300, ..Ask::on(call, Image::from(file)) }
 }
 
-/// A free slot and 100/1: 37 bytes.
-fn one_free() -> Image {
-    file(&[(100, 1, b"hub".to_vec())])
+/// A free slot and this slot of 100/1: 37 bytes.
+pub fn one_free_with(slot: [u8; 12]) -> Vec<u8> {
+    two_slots([FREE_SLOT, slot], &[])
 }
 
 /// The same with 40000/5 in the free slot.
-fn one_added() -> Vec<u8> {
-    let slots = [slot(40000, 5, 37, 1), slot(100, 1, 34, 3)].concat();
-    image(&[&block(2, 0), &slots, b"hub", &[0x2a], &trailer(10, 12, FREE_SLOT, 37, 0)]).bytes()
+fn one_added(other: [u8; 12]) -> Vec<u8> {
+    two_slots([slot(40000, 5, 37, 1), other], &[&[0x2a], &trailer(10, 12, FREE_SLOT, 37, 0)])
+}
+
+/// The same with 100/1 replaced.
+pub fn replaced(old: [u8; 12]) -> Vec<u8> {
+    two_slots([FREE_SLOT, slot(100, 1, 37, 1)], &[&[0x2a], &trailer(22, 12, old, 37, 0)])
+}
+
+/// The same with 100/1 removed.
+pub fn removed(old: [u8; 12]) -> Vec<u8> {
+    two_slots([FREE_SLOT, FREE_SLOT], &[&trailer(22, 12, old, 37, 0)])
+}
+
+/// A block of two slots, three bytes, and what was appended.
+fn two_slots(slots: [[u8; 12]; 2], appended: &[&[u8]]) -> Vec<u8> {
+    image(&[&block(2, 0), &slots.concat(), b"hub", &appended.concat()]).bytes()
 }
 
 /// Blocks one behind the other, the first with the empty 100/1 as its only slot, the others without slots.

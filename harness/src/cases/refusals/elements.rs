@@ -2,8 +2,8 @@
 //! of 22 bytes, or sparse, of 16. The tables and blocks are in `links`.
 
 use super::ask::{Ask, Rooms, Written};
-use super::{fault, granted, over, Case, Fault};
-use crate::cases::pieces::{file, numbers16, numbers32, Image};
+use super::{fault, granted, over, refused, Case, Fault, UNSTORED};
+use crate::cases::pieces::{file, numbers16, numbers32, Image, ALL_ONES};
 use crate::storage::Layout;
 use crate::tally::Call;
 
@@ -15,6 +15,9 @@ pub const BLOCK: usize = 58;
 pub const SECOND_BLOCK: usize = 70;
 pub const THIRD_BLOCK: usize = 82;
 pub const LAST_BLOCK: usize = 94;
+
+/// The slot of the plain element 100/1.
+const PLAIN: usize = 106;
 
 /// Where the fields of a full record stand in it.
 const KIND: usize = 0;
@@ -32,6 +35,9 @@ const SPARSE_SIZE: usize = 16;
 pub const PLAIN_20: u16 = 20;
 
 const ABSENT: [Fault; 1] = [fault("11", "a reference that is not there", [11, 0], |ask| ask.reference = 2)];
+
+const UNSTORED_PLAIN: [Fault; 1] =
+    [fault("29", "an element that is not stored yet", [29, 106], |ask| ask.image.unstore(PLAIN))];
 
 const EXTENDED: [Fault; 2] = [
     fault("12", "an extended element", [12, 22], |ask| (ask.tag, ask.reference) = (302, 1)),
@@ -105,49 +111,75 @@ const SMALL_FOR_PLAIN: [Fault; 1] = [fault("14", "room for 2 of 3 bytes", [14, 0
 
 pub fn cases() -> Vec<Case> {
     let linked = |layout| [records(layout, four_blocks(layout)), records(layout, nine_bytes(layout)), rooms(layout)];
-    [&[plain()], &linked(Layout::Full)[..], &linked(Layout::Sparse)].concat().concat()
+    [&[plain(), without_bytes()], &linked(Layout::Full)[..], &linked(Layout::Sparse)].concat().concat()
 }
 
 fn plain() -> Vec<Case> {
     let image = || linked(Layout::Full);
-    let view = Ask { tag: 100, reference: 1, ..Ask::on(Call::View, image()) };
-    let viewed = [granted("a plain element", view, &[173, 3], Written::default())];
+    let viewed = [granted("a plain element", view(100, image()), &[173, 3], Written::default())];
     let sized = [granted("a plain element", size(100, image()), &[3], Written::default())];
     let copied = [granted("a plain element", copy(100, image(), 4), &[3, 0], Written::bytes(b"hub"))];
+    let (extended, room) = (over(&EXTENDED, &viewed), over(&SMALL_FOR_PLAIN, &copied));
+    let all = [&viewed[..], &sized, &copied].concat();
     [
-        over(&ABSENT, &viewed),
-        over(&EXTENDED, &viewed),
-        over(&ABSENT, &sized),
-        over(&ABSENT, &copied),
-        over(&SMALL_FOR_PLAIN, &copied),
-        viewed.into(),
-        sized.into(),
-        copied.into(),
+        over(&ABSENT, &all),
+        over(&UNSTORED_PLAIN, &all),
+        over(&UNSTORED, &extended),
+        over(&UNSTORED_PLAIN, &room),
+        extended,
+        room,
+        all,
     ]
     .concat()
 }
 
-/// A record, its kind, the rest of it.
+/// What has no bytes and is stored: a machine type, whatever its fields, and an element of length 0. An extended machine type
+/// has no record.
+fn without_bytes() -> Vec<Case> {
+    let file = |tag, length| {
+        let mut image = file(&[(tag, 1, Vec::new())]);
+        image.put_offset(RECORD, ALL_ONES);
+        image.put_length(RECORD, length);
+        image
+    };
+    let empty = |of, tag, length| {
+        let case = |ask, values| granted(of, ask, values, Written::default());
+        let image = || file(tag, length);
+        [case(view(tag, image()), &[0, 0][..]), case(size(tag, image()), &[0]), case(copy(tag, image(), 4), &[0, 0])]
+    };
+    let (of, extended) = ("an extended machine type of all ones", || file(16491, ALL_ONES));
+    let others = [
+        refused(of, "12", view(107, extended()), [12, 22]),
+        refused(of, "13 cut", size(107, extended()), [13, 22]),
+        refused(of, "13 cut", copy(107, extended(), 4), [13, 22]),
+    ];
+    let machine_type = empty("a machine type of all ones", 107, ALL_ONES);
+    [&machine_type[..], &empty("no bytes at an offset of all ones", 100, 0), &others].concat()
+}
+
+/// The element, its record's kind, the rest of the record.
 fn records(layout: Layout, granted: Case) -> Vec<Case> {
     let (granted, of_record) = ([granted], of_record(layout));
-    let kind = over(&of_record.kind, &granted);
+    let (cut, kind) = (over(&CUT, &granted), over(&of_record.kind, &granted));
     let rest = [over(&FOUR_BYTES, &granted), over(of_record.rest, &granted)].concat();
+    let record = [&cut[..], &kind, &rest].concat();
     [
-        over(&CUT, &granted),
+        over(&UNSTORED, &granted),
+        over(&UNSTORED, &record),
         over(&CUT[..1], &kind),
         over(&of_record.kind, &rest),
         over(&of_record.others_kind, &granted),
-        kind,
-        rest,
+        record,
         granted.into(),
     ]
     .concat()
 }
 
-/// A record, then the room.
+/// The element, its record, then the room.
 fn rooms(layout: Layout) -> Vec<Case> {
     let room = over(&SMALL, &[four_blocks(layout)]);
-    [over(&of_record(layout).kind, &room), over(of_record(layout).rest, &room), room].concat()
+    let before = [&UNSTORED[..], &of_record(layout).kind, of_record(layout).rest].concat();
+    [over(&before, &room), room].concat()
 }
 
 pub fn of_record(layout: Layout) -> &'static OfRecord {
@@ -165,6 +197,10 @@ pub fn four_blocks(layout: Layout) -> Case {
 /// Its size.
 pub fn nine_bytes(layout: Layout) -> Case {
     granted("four blocks", size(302, linked(layout)), &[9], Written::default()).in_layout(layout)
+}
+
+fn view(tag: u16, image: Image) -> Ask {
+    Ask { tag, reference: 1, ..Ask::on(Call::View, image) }
 }
 
 pub fn size(tag: u16, image: Image) -> Ask {

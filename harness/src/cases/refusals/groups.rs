@@ -1,7 +1,7 @@
 //! Vgroups, and the listing of groups within groups.
 
 use super::ask::{Ask, Rooms, Written};
-use super::{fault, granted, over, Case, Fault};
+use super::{element_first, fault, granted, over, two_at_once, Case, Fault};
 use crate::cases::pieces::{file, numbers16, text, Image};
 use crate::tally::Call;
 use std::ops::RangeInclusive;
@@ -42,7 +42,8 @@ const SMALL: [Fault; 2] = [
 
 const NO_NAMED: [Fault; 1] = [fault("11 named", "no named group", [11, 0], |ask| ask.reference = 9)];
 
-const BAD_NAMED: [Fault; 3] = [
+const BAD_NAMED: [Fault; 4] = [
+    fault("29 named", "a named group that is not stored yet", [29, 22], |ask| ask.image.unstore(NAMED)),
     fault("12 named", "an extended named group", [12, 22], |ask| ask.image.put_tag(NAMED, EXTENDED_GROUP)),
     fault("15 named", "a named group of 29 bytes", [15, 22], |ask| ask.image.put_length(NAMED, 29)),
     fault("15 named", "a named group of version 4", [15, 22], |ask| ask.image.put16_in(NAMED, 26, 4)),
@@ -53,8 +54,9 @@ const NO_PLACE: [Fault; 2] = [
     fault("14 place", "no place for the second pair", [14, 0], |ask| ask.rooms.shorts = 2),
 ];
 
-const BAD_MEMBER: [Fault; 3] = [
+const BAD_MEMBER: [Fault; 4] = [
     fault("11 member", "a group that is not there", [11, 0], |ask| ask.image.put_tag(MEMBER, OTHER_TAG)),
+    fault("29 member", "a group that is not stored yet", [29, 34], |ask| ask.image.unstore(MEMBER)),
     fault("12 member", "an extended group inside", [12, 34], |ask| ask.image.put_tag(MEMBER, EXTENDED_GROUP)),
     fault("15 member", "a group of 13 bytes inside", [15, 34], |ask| ask.image.put_length(MEMBER, 13)),
 ];
@@ -62,14 +64,16 @@ const BAD_MEMBER: [Fault; 3] = [
 const NO_LATER_PLACE: [Fault; 1] =
     [fault("14 later", "no place for a later pair", [14, 0], |ask| ask.rooms.shorts = 2)];
 
-const BAD_LATER: [Fault; 3] = [
+const BAD_LATER: [Fault; 4] = [
     fault("11 later", "a later group that is not there", [11, 0], |ask| ask.image.put_tag(LATER, OTHER_TAG)),
+    fault("29 later", "a later group that is not stored yet", [29, 46], |ask| ask.image.unstore(LATER)),
     fault("12 later", "a later group that is extended", [12, 46], |ask| ask.image.put_tag(LATER, EXTENDED_GROUP)),
     fault("15 later", "a later group of 13 bytes", [15, 46], |ask| ask.image.put_length(LATER, 13)),
 ];
 
 /// The same of a group 1 without names.
-const BAD_FIRST: [Fault; 2] = [
+const BAD_FIRST: [Fault; 3] = [
+    fault("29 named", "a first group that is not stored yet", [29, 22], |ask| ask.image.unstore(NAMED)),
     fault("12 named", "an extended first group", [12, 22], |ask| ask.image.put_tag(NAMED, EXTENDED_GROUP)),
     fault("15 named", "a first group of 17 bytes", [15, 22], |ask| ask.image.put_length(NAMED, 17)),
 ];
@@ -80,8 +84,9 @@ const DEEP: [Fault; 1] = [fault("22", "a 17th group", [22, 202], |ask| ask.refer
 const NO_16TH_PLACE: [Fault; 1] =
     [fault("14 place", "no place for the 16th pair", [14, 0], |ask| ask.rooms.shorts = 30)];
 
-const BAD_LAST: [Fault; 3] = [
+const BAD_LAST: [Fault; 4] = [
     fault("11 member", "no last group", [11, 0], |ask| ask.image.put_tag(LAST, OTHER_TAG)),
+    fault("29 member", "a last group that is not stored yet", [29, 214], |ask| ask.image.unstore(LAST)),
     fault("12 member", "an extended last group", [12, 214], |ask| ask.image.put_tag(LAST, EXTENDED_GROUP)),
     fault("15 member", "a last group of 13 bytes", [15, 214], |ask| ask.image.put_length(LAST, 13)),
 ];
@@ -107,19 +112,10 @@ fn groups() -> Vec<Case> {
     longer.put_length(NAMED, 31);
     let read = [granted("two members", ask(two_groups()), &[2, 70, 4, 76, 4, 9, 8, 3, 7], written())];
     let behind = granted("a byte behind the last field", ask(longer), &[2, 70, 4, 76, 4, 9, 8, 3, 7], written());
-    let (bad, small) = (over(&BAD_GROUP, &read), over(&SMALL, &read));
-    [
-        over(&ABSENT, &read),
-        over(&EXTENDED, &read),
-        over(&EXTENDED, &bad),
-        over(&EXTENDED, &small),
-        over(&BAD_GROUP[1..], &small),
-        bad,
-        small,
-        read.into(),
-        vec![behind],
-    ]
-    .concat()
+    let small = over(&SMALL, &read);
+    let later = [&over(&BAD_GROUP, &read)[..], &small].concat();
+    [element_first(&ABSENT, &EXTENDED, &read, &later), over(&BAD_GROUP[1..], &small), later, read.into(), vec![behind]]
+        .concat()
 }
 
 /// The named group, then at the second pair its place, then the group that it is.
@@ -128,21 +124,31 @@ fn listings() -> Vec<Case> {
     let listed = [granted("a group inside", ask(1, 5), &[2], Written::shorts(&[1962, 5, 1965, 2]))];
     let empty = granted("a group of no members, and no room", ask(2, 0), &[0], Written::default());
     let (place, member) = (over(&NO_PLACE, &listed), over(&BAD_MEMBER, &listed));
-    let bad_member = over(&BAD_MEMBER[2..], &listed);
+    let (storage, layout) = BAD_NAMED.split_at(2);
     [
         over(&NO_NAMED, &listed),
         over(&BAD_NAMED, &listed),
-        over(&BAD_NAMED[..1], &over(&BAD_NAMED[1..], &listed)),
+        two_at_once(storage, &listed),
+        over(storage, &over(layout, &listed)),
         over(&BAD_NAMED, &place),
         over(&BAD_NAMED, &member),
         over(&NO_PLACE, &member),
-        over(&BAD_MEMBER[1..2], &bad_member),
+        two_at_once(&BAD_MEMBER[1..], &listed),
         place,
         member,
         listed.into(),
-        vec![empty],
+        vec![empty, unread()],
     ]
     .concat()
+}
+
+/// A member that is no group is not read.
+fn unread() -> Case {
+    let members = [[GROUP, 2], [100, 1]];
+    let mut image = file(&[(GROUP, 1, group(&members)), (GROUP, 2, group(&[])), (100, 1, Vec::new())]);
+    image.unstore(LATER);
+    let ask = ask(Call::ListGroup, 1, image, 4);
+    granted("an element that is not stored yet", ask, &[2], Written::shorts(&members.concat()))
 }
 
 /// The first pair, then the second.

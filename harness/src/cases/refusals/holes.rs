@@ -4,7 +4,7 @@
 
 use super::ask::{Ask, Written};
 use super::elements::{copy, four_blocks, BLOCK, SECOND_TABLE, TABLE};
-use super::links::{absent, faults_in, shorter, with_length, zero, BLOCK_REF, SECOND_REF};
+use super::links::{absent, faults_in, shorter, unstored, with_length, zero, BLOCK_REF, SECOND_REF};
 use super::links::{FOR_LAST, FOR_MORE, FOR_SECOND, FOR_THIRD};
 use super::{broken, granted, over, Case, Fault};
 use crate::storage::Layout;
@@ -19,7 +19,7 @@ const FIRST_HOLE: Altered = ("a first hole", b"\0\0nalbox", zero::<TABLE, BLOCK_
 const SECOND_HOLE: Altered = ("a second hole", b"sig\0\0lbox", zero::<TABLE, SECOND_REF>);
 const NO_BYTES: Altered = ("a first block of no bytes", b"nalbox", shorter::<BLOCK, 0>);
 
-const OTHERS: [Altered; 12] = [
+const OTHERS: [Altered; 13] = [
     ("a third hole", b"signa\0\0ox", zero::<SECOND_TABLE, BLOCK_REF>),
     ("a last hole", b"signalb\0\0", zero::<SECOND_TABLE, SECOND_REF>),
     ("half of a first hole", b"\0", zero::<TABLE, BLOCK_REF>),
@@ -28,6 +28,10 @@ const OTHERS: [Altered; 12] = [
     ("only holes, and no 20/0", &[0; 8], |ask| {
         only_holes(ask);
         absent::<NUMBER_0>(ask);
+    }),
+    ("only holes, and a 20/0 that is not stored yet", &[0; 8], |ask| {
+        only_holes(ask);
+        unstored::<NUMBER_0>(ask);
     }),
     ("a first block of no bytes, and a hole", b"\0\0lbox", |ask| {
         shorter::<BLOCK, 0>(ask);

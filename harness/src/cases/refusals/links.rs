@@ -6,7 +6,7 @@ use super::ask::{Ask, Written};
 use super::elements::{copy, four_blocks, linked, nine_bytes, of_record, record, size, PLAIN_20, SMALL};
 use super::elements::{put_element_length, put_link_ref};
 use super::elements::{BLOCK, LAST_BLOCK, SECOND_BLOCK, SECOND_TABLE, TABLE, THIRD_BLOCK};
-use super::{broken, granted, over, Case, Fault};
+use super::{broken, fault, granted, over, Case, Fault, UNSTORED};
 use crate::cases::pieces::{file, numbers16, Image};
 use crate::storage::Layout;
 
@@ -20,9 +20,10 @@ const OTHER_TAG: u16 = 21;
 
 // ---- The element of four blocks
 
-const NO_TABLE: [Fault; 3] = [
+const NO_TABLE: [Fault; 4] = [
     broken("23 zero", "table 0", [23, 22, 0], |ask| put_link_ref(&mut ask.image, 0)),
     broken("23 absent", "no table", [23, 22, 0], absent::<TABLE>),
+    broken("23 unstored", "a table that is not stored yet", [23, 22, 0], unstored::<TABLE>),
     broken("23 extended", "an extended table", [23, 22, 0], extended::<TABLE>),
 ];
 
@@ -31,9 +32,10 @@ const SHORT_TABLE: [Fault; 2] = [
     broken("24", "a table of no bytes", [24, 22, 0], shorter::<TABLE, 0>),
 ];
 
-const NO_BLOCK: [Fault; 3] = [
+const NO_BLOCK: [Fault; 4] = [
     broken("25 zero", "block 0", [25, 22, 0], zero::<TABLE, BLOCK_REF>),
     broken("25 absent", "no block", [25, 22, 0], absent::<BLOCK>),
+    broken("25 unstored", "a block that is not stored yet", [25, 22, 0], unstored::<BLOCK>),
     broken("25 extended", "an extended block", [25, 22, 0], extended::<BLOCK>),
 ];
 
@@ -42,9 +44,10 @@ const SHORT_BLOCK: [Fault; 2] = [
     broken("26", "a block of no bytes", [26, 22, 0], shorter::<BLOCK, 0>),
 ];
 
-const NO_SECOND_BLOCK: [Fault; 3] = [
+const NO_SECOND_BLOCK: [Fault; 4] = [
     broken("25 second zero", "a second block 0", [25, 22, 1], zero::<TABLE, SECOND_REF>),
     broken("25 second absent", "no second block", [25, 22, 1], absent::<SECOND_BLOCK>),
+    broken("25 second unstored", "a second block that is not stored yet", [25, 22, 1], unstored::<SECOND_BLOCK>),
     broken("25 second extended", "an extended second block", [25, 22, 1], extended::<SECOND_BLOCK>),
 ];
 
@@ -55,9 +58,10 @@ const SHORT_SECOND_BLOCK: [Fault; 1] =
 const TABLE_TWICE: [Fault; 1] =
     [broken("27 twice", "a table that comes twice", [27, 22, 1], |ask| ask.image.put16_in(TABLE, NEXT_REF, 1))];
 
-const NO_SECOND_TABLE: [Fault; 3] = [
+const NO_SECOND_TABLE: [Fault; 4] = [
     broken("23 second zero", "a second table 0", [23, 22, 1], zero::<TABLE, NEXT_REF>),
     broken("23 second absent", "no second table", [23, 22, 1], absent::<SECOND_TABLE>),
+    broken("23 second unstored", "a second table that is not stored yet", [23, 22, 1], unstored::<SECOND_TABLE>),
     broken("23 second extended", "an extended second table", [23, 22, 1], extended::<SECOND_TABLE>),
 ];
 
@@ -65,18 +69,20 @@ const SHORT_SECOND_TABLE: [Fault; 1] =
     [broken("24 second", "a second table of 5 bytes", [24, 22, 1], shorter::<SECOND_TABLE, 5>)];
 
 /// The first block of the second table is the third of the element.
-const NO_THIRD_BLOCK: [Fault; 3] = [
+const NO_THIRD_BLOCK: [Fault; 4] = [
     broken("25 third zero", "a third block 0", [25, 22, 2], zero::<SECOND_TABLE, BLOCK_REF>),
     broken("25 third absent", "no third block", [25, 22, 2], absent::<THIRD_BLOCK>),
+    broken("25 third unstored", "a third block that is not stored yet", [25, 22, 2], unstored::<THIRD_BLOCK>),
     broken("25 third extended", "an extended third block", [25, 22, 2], extended::<THIRD_BLOCK>),
 ];
 
 const SHORT_THIRD_BLOCK: [Fault; 1] =
     [broken("26 third", "a third block of 1 byte", [26, 22, 2], shorter::<THIRD_BLOCK, 1>)];
 
-const NO_LAST_BLOCK: [Fault; 3] = [
+const NO_LAST_BLOCK: [Fault; 4] = [
     broken("25 last zero", "a last block 0", [25, 22, 3], zero::<SECOND_TABLE, SECOND_REF>),
     broken("25 last absent", "no last block", [25, 22, 3], absent::<LAST_BLOCK>),
+    broken("25 last unstored", "a last block that is not stored yet", [25, 22, 3], unstored::<LAST_BLOCK>),
     broken("25 last extended", "an extended last block", [25, 22, 3], extended::<LAST_BLOCK>),
 ];
 
@@ -123,27 +129,31 @@ const MANY_TABLES_AND_TWICE: [Fault; 1] =
     })];
 
 /// Faults that are met before the 257th of all tables.
-const BEFORE_MANY: [Fault; 10] = [
+const BEFORE_MANY: [Fault; 12] = [
     broken("23 zero", "table 0", [23, 22, 0], |ask| put_link_ref(&mut ask.image, 0)),
     broken("23 absent", "no table", [23, 22, 0], absent::<TABLE_1>),
+    broken("23 unstored", "a table that is not stored yet", [23, 22, 0], unstored::<TABLE_1>),
     broken("23 extended", "an extended table", [23, 22, 0], extended::<TABLE_1>),
     broken("24", "a table of 3 bytes", [24, 22, 0], shorter::<TABLE_1, 3>),
     broken("25 zero", "block 0", [25, 22, 0], zero::<TABLE_1, BLOCK_REF>),
     broken("25 zero", "a block 0 of the 256th table", [25, 22, 255], zero::<TABLE_256, BLOCK_REF>),
     broken("25 absent", "no block", [25, 22, 0], absent::<X_BLOCK>),
+    broken("25 unstored", "a block that is not stored yet", [25, 22, 0], unstored::<X_BLOCK>),
     broken("25 extended", "an extended block", [25, 22, 0], extended::<X_BLOCK>),
     broken("26", "a block of no bytes", [26, 22, 0], shorter::<X_BLOCK, 0>),
     broken("27 twice", "a table that comes twice", [27, 22, 2], |ask| ask.image.put16_in(TABLE_2, NEXT_REF, 1)),
 ];
 
 /// Faults of table 257 and of its block. It is the 256th where the first one is left out, and the 257th of all.
-const OF_TABLE_257: [Fault; 8] = [
+const OF_TABLE_257: [Fault; 10] = [
     broken("23 256th zero", "a last table 0", [23, 22, 255], zero::<TABLE_256, NEXT_REF>),
     broken("23 256th absent", "no last table", [23, 22, 255], absent::<TABLE_257>),
+    broken("23 256th unstored", "a last table that is not stored yet", [23, 22, 255], unstored::<TABLE_257>),
     broken("23 256th extended", "an extended last table", [23, 22, 255], extended::<TABLE_257>),
     broken("24 256th", "a last table of 3 bytes", [24, 22, 255], shorter::<TABLE_257, 3>),
     broken("25 256th zero", "a last block 0", [25, 22, 255], zero::<TABLE_257, BLOCK_REF>),
     broken("25 256th absent", "no last block", [25, 22, 255], absent::<Y_BLOCK>),
+    broken("25 256th unstored", "a last block that is not stored yet", [25, 22, 255], unstored::<Y_BLOCK>),
     broken("25 256th extended", "an extended last block", [25, 22, 255], extended::<Y_BLOCK>),
     broken("26 256th", "a last block of no bytes", [26, 22, 255], shorter::<Y_BLOCK, 0>),
 ];
@@ -161,10 +171,13 @@ const FAR_BLOCK: [Fault; 2] = [
 ];
 
 /// Here the slots are those of the table, of two blocks and of the element.
-const BEFORE_THE_ELEMENT: [Fault; 4] = [
+const BEFORE_THE_ELEMENT: [Fault; 7] = [
+    fault("29", "an element that is not stored yet", [29, 58], unstored::<58>),
     broken("23 absent", "no table", [23, 58, 0], absent::<22>),
+    broken("23 unstored", "a table that is not stored yet", [23, 58, 0], unstored::<22>),
     broken("24", "a table of 5 bytes", [24, 58, 0], shorter::<22, 5>),
     broken("25 second absent", "no second block", [25, 58, 1], absent::<46>),
+    broken("25 second unstored", "a second block that is not stored yet", [25, 58, 1], unstored::<46>),
     broken("26 second", "a second block of 1 byte", [26, 58, 1], shorter::<46, 1>),
 ];
 
@@ -176,7 +189,7 @@ pub fn cases() -> Vec<Case> {
     [of(Layout::Full), of(Layout::Sparse)].concat()
 }
 
-/// Each fault of the walk behind those of the record and the room, and behind each that is met before it.
+/// Each fault of the walk behind those of the element, the record and the room, and behind each that is met before it.
 fn walks(layout: Layout) -> Vec<Case> {
     let copied = [four_blocks(layout)];
     let walk = [&FOR_BLOCK[..], &FOR_SECOND, &FOR_THIRD, &FOR_LAST, &FOR_MORE].concat();
@@ -186,6 +199,7 @@ fn walks(layout: Layout) -> Vec<Case> {
     let before_later = |(at, faults): (usize, &Vec<Fault>)| over(faults, &alone(&walk[at + 1..]));
     let all = alone(&walk);
     [
+        over(&UNSTORED, &all),
         over(&of_record(layout).kind, &all),
         over(of_record(layout).rest, &all),
         over(&SMALL, &all),
@@ -327,6 +341,10 @@ pub fn zero<const SLOT: usize, const PLACE: usize>(ask: &mut Ask) {
 
 pub fn absent<const SLOT: usize>(ask: &mut Ask) {
     ask.image.put_tag(SLOT, OTHER_TAG);
+}
+
+pub fn unstored<const SLOT: usize>(ask: &mut Ask) {
+    ask.image.unstore(SLOT);
 }
 
 fn extended<const SLOT: usize>(ask: &mut Ask) {

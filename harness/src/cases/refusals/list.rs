@@ -5,8 +5,8 @@ use super::{name_of_call, Case, NO_RULE};
 use crate::tally::{Call, CALLS};
 use std::collections::BTreeSet;
 
-/// The last number of the paper's table.
-const LAST_NUMBER: u64 = 27;
+/// The last number that a call answers.
+const LAST_NUMBER: u64 = 29;
 
 type Rules = &'static [&'static str];
 
@@ -170,13 +170,13 @@ const FIND: Must = reading(&[Call::Find], &["11"], &[]);
 
 const LIST: Must = reading(&[Call::List], &["14"], &[]);
 
-/// A pair that is absent has no storage.
-const VIEW: Must = reading(&[Call::View], &["11", "12"], &[]);
+/// A pair that is absent has no storage, and no slot that could be not stored yet.
+const VIEW: Must = reading(&[Call::View], &["11", "29", "12"], &[(&["29"], &["12"])]);
 
 /// A record under 4 bytes has no kind. The chain is not judged.
 const SIZE: Must = Must {
-    order: &[(&["13 cut"], &["12"])],
-    stages: &[&["12"], BAD_RECORD],
+    order: &[(&["29"], &["13 cut"]), (&["13 cut"], &["12"])],
+    stages: &[&["29"], &["12"], BAD_RECORD],
     ..reading(&[Call::Size], &["11", "13 cut"], &[])
 };
 
@@ -185,8 +185,8 @@ const BAD_RECORD: Rules = &["13 size", "13 first_len", "13 blk_len", "13 num_blk
 /// A sparse record has no first_len.
 const SIZE_SPARSE: Must = Must {
     is_sparse: true,
-    order: &[(&["13 cut"], &["12"])],
-    stages: &[&["12"], BAD_SPARSE_RECORD],
+    order: &[(&["29"], &["13 cut"]), (&["13 cut"], &["12"])],
+    stages: &[&["29"], &["12"], BAD_SPARSE_RECORD],
     ..reading(&[Call::Size], &["13 cut"], &[])
 };
 
@@ -197,23 +197,24 @@ const BAD_SPARSE_RECORD: Rules = &["13 size", "13 blk_len", "13 num_blk"];
 /// one that repeats another is there and whole.
 const COPY: Must = Must {
     behind: &["11", "13 cut"],
-    order: &[(&["13 cut"], &["12"])],
+    order: &[(&["29"], &["13 cut"]), (&["13 cut"], &["12"])],
     stages: &[
+        &["29"],
         &["12"],
         BAD_RECORD,
         &["14"],
-        &["23 zero", "23 absent", "23 extended"],
+        &["23 zero", "23 absent", "23 unstored", "23 extended"],
         &["24"],
-        &["25 zero", "25 absent", "25 extended"],
+        &["25 zero", "25 absent", "25 unstored", "25 extended"],
         &["26"],
-        &["25 second zero", "25 second absent", "25 second extended"],
+        &["25 second zero", "25 second absent", "25 second unstored", "25 second extended"],
         &["26 second"],
         &["27 twice"],
-        &["23 second zero", "23 second absent", "23 second extended"],
+        &["23 second zero", "23 second absent", "23 second unstored", "23 second extended"],
         &["24 second"],
-        &["25 third zero", "25 third absent", "25 third extended"],
+        &["25 third zero", "25 third absent", "25 third unstored", "25 third extended"],
         &["26 third"],
-        &["25 last zero", "25 last absent", "25 last extended"],
+        &["25 last zero", "25 last absent", "25 last unstored", "25 last extended"],
         &["26 last"],
         &["27 third"],
         &["23 third zero", "23 third absent"],
@@ -225,8 +226,8 @@ const COPY: Must = Must {
 const COPY_LONG: Must = Must {
     behind: &["25 256th zero"],
     order: &[
-        (&["23 zero", "23 absent", "23 extended", "24"], &["27 257th"]),
-        (&["25 zero", "25 absent", "25 extended", "26", "27 twice"], &["27 257th"]),
+        (&["23 zero", "23 absent", "23 unstored", "23 extended", "24"], &["27 257th"]),
+        (&["25 zero", "25 absent", "25 unstored", "25 extended", "26", "27 twice"], &["27 257th"]),
         (&["14", "27 257th"], &["25 256th zero"]),
     ],
     stages: &[&["14"], &["27 257th"], AT_256TH],
@@ -236,9 +237,11 @@ const COPY_LONG: Must = Must {
 const AT_256TH: Rules = &[
     "23 256th zero",
     "23 256th absent",
+    "23 256th unstored",
     "23 256th extended",
     "24 256th",
     "25 256th absent",
+    "25 256th unstored",
     "25 256th extended",
     "26 256th",
 ];
@@ -250,22 +253,23 @@ const COPY_FAR: Must =
 /// A sparse record has no first_len. A block of reference 0 is a hole, and a first block is never too short.
 const COPY_SPARSE: Must = Must {
     is_sparse: true,
-    order: &[(&["13 cut"], &["12"])],
+    order: &[(&["29"], &["13 cut"]), (&["13 cut"], &["12"])],
     stages: &[
+        &["29"],
         &["12"],
         BAD_SPARSE_RECORD,
         &["14"],
-        &["23 zero", "23 absent", "23 extended"],
+        &["23 zero", "23 absent", "23 unstored", "23 extended"],
         &["24"],
-        &["25 absent", "25 extended"],
-        &["25 second absent", "25 second extended"],
+        &["25 absent", "25 unstored", "25 extended"],
+        &["25 second absent", "25 second unstored", "25 second extended"],
         &["26 second"],
         &["27 twice"],
-        &["23 second zero", "23 second absent", "23 second extended"],
+        &["23 second zero", "23 second absent", "23 second unstored", "23 second extended"],
         &["24 second"],
-        &["25 third absent", "25 third extended"],
+        &["25 third absent", "25 third unstored", "25 third extended"],
         &["26 third"],
-        &["25 last absent", "25 last extended"],
+        &["25 last absent", "25 last unstored", "25 last extended"],
         &["26 last"],
         &["27 third"],
         &["23 third zero", "23 third absent"],
@@ -276,8 +280,8 @@ const COPY_SPARSE: Must = Must {
 const COPY_SPARSE_LONG: Must = Must {
     is_sparse: true,
     order: &[
-        (&["23 zero", "23 absent", "23 extended", "24"], &["27 257th"]),
-        (&["25 absent", "25 extended", "27 twice"], &["27 257th"]),
+        (&["23 zero", "23 absent", "23 unstored", "23 extended", "24"], &["27 257th"]),
+        (&["25 absent", "25 unstored", "25 extended", "27 twice"], &["27 257th"]),
     ],
     stages: &[&["14"], &["27 257th"], AT_256TH],
     ..reading(&[Call::Copy], &[], &[])
@@ -286,14 +290,14 @@ const COPY_SPARSE_LONG: Must = Must {
 const COPY_SPARSE_FAR: Must =
     Must { is_sparse: true, stages: &[&["14"], &["25 far absent"]], ..reading(&[Call::Copy], &[], &[]) };
 
-const CHOOSE: Must = reading(
-    &[Call::Choose],
-    &["1 fallback", "2 fallback", "4 fallback", "7 fallback", "11", "12 current", "12 fallback"],
-    &[
-        (&["1 fallback", "2 fallback", "4 fallback", "7 fallback"], &["11", "12 current", "12 fallback"]),
-        (&["12 current"], &["12 fallback"]),
-    ],
-);
+/// Today's file answers wherever it has the pair. One that neither file has is in no other trouble.
+const CHOOSE: Must = Must {
+    order: &[(OPENING_FALLBACK, &["11"])],
+    stages: &[OPENING_FALLBACK, &["29 current"], &["12 current"], &["29 fallback"], &["12 fallback"]],
+    ..reading(&[Call::Choose], &["11"], &[])
+};
+
+const OPENING_FALLBACK: Rules = &["1 fallback", "2 fallback", "4 fallback", "7 fallback"];
 
 const ADD: Must = editing(
     &[Call::Add],
@@ -340,63 +344,68 @@ const UNDO_TRAILER: Must = Must {
     ..editing(&[Call::Undo], &[], &[])
 };
 
-const NUMBER_TYPE: Must = reading(&[Call::ReadNumberType], &["11", "12", "15"], &[(&["12"], &["15"])]);
+const NUMBER_TYPE: Must =
+    Must { stages: &[&["29"], &["12"], &["15"]], ..reading(&[Call::ReadNumberType], &["11"], &[]) };
 
-const DIMENSION: Must = reading(
-    &[Call::ReadDimension],
-    &["11", "12", "15 length", "15 interlace"],
-    &[(&["12"], &["15 length", "15 interlace"])],
-);
+const DIMENSION: Must = Must {
+    stages: &[&["29"], &["12"], &["15 length", "15 interlace"]],
+    ..reading(&[Call::ReadDimension], &["11"], &[])
+};
 
 /// An array of rank 0 has no sizes, and so room enough for them.
-const ARRAY: Must = reading(
-    &[Call::ReadArray],
-    &["11", "12", "15 length", "15 rank", "14 sizes", "14 pairs"],
-    &[
-        (&["12"], &["15 length", "15 rank", "14 sizes", "14 pairs"]),
-        (&["15 length"], &["14 sizes", "14 pairs"]),
-        (&["15 rank"], &["14 pairs"]),
-    ],
-);
+const ARRAY: Must = Must {
+    order: &[(&["15 length"], &["14 sizes", "14 pairs"]), (&["15 rank"], &["14 pairs"])],
+    stages: &[&["29"], &["12"], &["15 length", "15 rank", "14 sizes", "14 pairs"]],
+    ..reading(&[Call::ReadArray], &["11"], &[])
+};
 
-const GROUP: Must = reading(
-    &[Call::ReadGroup],
-    &["11", "12", "15 cut", "15 version", "14"],
-    &[(&["12"], &["15 cut", "15 version", "14"]), (&["15 cut", "15 version"], &["14"])],
-);
+const GROUP: Must = Must {
+    stages: &[&["29"], &["12"], &["15 cut", "15 version"], &["14"]],
+    ..reading(&[Call::ReadGroup], &["11"], &[])
+};
 
 /// A named group that is absent has no pairs. At each pair its place comes first, then the group that it is, then later pairs.
 const LIST_GROUP: Must = Must {
     behind: &[
         "11 named",
+        "29 named",
         "12 named",
         "15 named",
         "14 place",
         "14 4,097th",
         "22",
         "11 member",
+        "29 member",
         "12 member",
         "15 member",
         "14 later",
         "11 later",
+        "29 later",
         "12 later",
         "15 later",
     ],
     order: &[
+        (&["29 named"], &["12 named", "15 named"]),
         (&["12 named"], &["15 named"]),
-        (&["12 named", "15 named"], &["14 place", "14 4,097th", "22", "11 member", "12 member", "15 member"]),
-        (&["14 place", "14 4,097th"], &["22", "11 member", "12 member", "15 member"]),
-        (&["22"], &["11 member", "12 member", "15 member", "14 later"]),
+        (&["29 named", "12 named", "15 named"], &["14 place", "14 4,097th", "22"]),
+        (&["29 named", "12 named", "15 named"], BAD_MEMBER),
+        (&["14 place", "14 4,097th"], &["22"]),
+        (&["14 place", "14 4,097th", "22"], BAD_MEMBER),
+        (&["22"], &["14 later"]),
+        (&["29 member"], &["12 member", "15 member"]),
         (&["12 member"], &["15 member"]),
-        (&["11 member", "12 member", "15 member"], &["14 later", "11 later", "12 later", "15 later"]),
+        (BAD_MEMBER, &["14 later", "11 later", "29 later", "12 later", "15 later"]),
     ],
     ..reading(&[Call::ListGroup], &[], &[])
 };
+
+const BAD_MEMBER: Rules = &["11 member", "29 member", "12 member", "15 member"];
 
 /// The head of a Vdata, in all calls that read it.
 const HEAD: Must = Must {
     behind: &[
         "11",
+        "29",
         "12",
         "15 cut",
         "15 version",
@@ -409,8 +418,9 @@ const HEAD: Must = Must {
         "15 record size",
     ],
     order: &[
-        (&["12"], &["15 cut", "15 version", "15 interlace", "15 count", "15 order"]),
-        (&["12"], &["16", "15 size", "15 offset", "15 record size"]),
+        (&["29"], &["12"]),
+        (&["29", "12"], &["15 cut", "15 version", "15 interlace", "15 count", "15 order"]),
+        (&["29", "12"], &["16", "15 size", "15 offset", "15 record size"]),
         (&["15 cut", "15 version", "15 interlace", "15 count", "15 order"], &["16"]),
         (&["16"], &["15 size", "15 offset", "15 record size"]),
     ],
@@ -419,7 +429,7 @@ const HEAD: Must = Must {
 
 /// The rules of a head that is there, but for its count.
 const BAD_HEAD: Rules =
-    &["12", "15 cut", "15 version", "15 interlace", "15 order", "16", "15 size", "15 offset", "15 record size"];
+    &["29", "12", "15 cut", "15 version", "15 interlace", "15 order", "16", "15 size", "15 offset", "15 record size"];
 
 const VDATA: Must = reading(
     &[Call::ReadVdata],
@@ -432,12 +442,13 @@ const FIELDS: Must = reading(&[Call::ReadFields], &["14"], &[(BAD_HEAD, &["14"])
 /// A head and data that are both absent answer the same.
 const VALUE: Must = reading(
     &[Call::ReadValue],
-    &["17 record", "17 field", "17 component", "11 data", "12 data", "15 data"],
+    &["17 record", "17 field", "17 component", "11 data", "29 data", "12 data", "15 data"],
     &[
-        (&["11"], &["17 record", "17 field", "17 component", "12 data", "15 data"]),
-        (BAD_HEAD, &["17 record", "17 field", "17 component", "11 data", "12 data", "15 data"]),
+        (&["11"], &["17 record", "17 field", "17 component", "29 data", "12 data", "15 data"]),
+        (BAD_HEAD, &["17 record", "17 field", "17 component", "11 data", "29 data", "12 data", "15 data"]),
         (&["15 count"], &["17 record"]),
-        (&["17 record", "17 field", "17 component"], &["11 data", "12 data", "15 data"]),
+        (&["17 record", "17 field", "17 component"], &["11 data", "29 data", "12 data", "15 data"]),
+        (&["29 data"], &["12 data", "15 data"]),
         (&["12 data"], &["15 data"]),
     ],
 );

@@ -2,7 +2,7 @@
 
 use super::ask::{Ask, Written};
 use super::{fault, granted, in_order, over, refused, Case, Fault, TOO_LONG};
-use crate::cases::pieces::{block, image, numbers16, slot, Image, FREE_SLOT, NEXT};
+use crate::cases::pieces::{block, image, numbers16, slot, unstored, Image, ALL_ONES, FREE_SLOT, NEXT};
 use crate::tally::Call;
 
 /// Far behind the end of each file.
@@ -79,6 +79,8 @@ pub fn cases() -> Vec<Case> {
         most_blocks(),
         elements(),
         accepted(),
+        unstored_elements(),
+        almost_unstored(),
     ]
     .concat()
 }
@@ -258,6 +260,47 @@ fn accepted() -> Vec<Case> {
         granted("a block right behind a block", open(in_slot(22, 6)), &[2, 1, 0], Written::default()),
     ]);
     cases
+}
+
+/// Elements that are not stored yet: tag and pair are judged, offset and length are not.
+fn unstored_elements() -> Vec<Case> {
+    let two = |slots: [[u8; 12]; 2]| changed(|image| image.put(FIRST, &slots.concat()));
+    let opened = |of, ask, counts: [u64; 3]| granted(of, ask, &counts, Written::default());
+    let bad_tag = |of, tag| refused(of, "7", two([slot(100, 1, 46, 3), unstored(tag)]), [7, 22]);
+    let twice = |of, slots| refused(of, "10", two(slots), [10, 22]);
+    let all = [unstored(100), unstored(101), unstored(16686)].concat();
+    vec![
+        opened("an element that is not stored yet", two([unstored(100), slot(101, 1, 49, 2)]), [1, 3, 2]),
+        opened("an extended one that is not stored yet", two([slot(100, 1, 46, 3), unstored(16485)]), [1, 3, 2]),
+        opened("only elements that are not stored yet", open(image(&[&block(3, 0), &all])), [1, 3, 3]),
+        opened("a machine type of all ones", two([unstored(107), unstored(101)]), [1, 3, 2]),
+        opened("an extended machine type of all ones", two([unstored(100), unstored(16491)]), [1, 3, 2]),
+        bad_tag("tag 0 that is not stored yet", 0),
+        bad_tag("tag 16384 that is not stored yet", 16384),
+        bad_tag("tag 16385 that is not stored yet", 16385),
+        twice("a twin that is not stored yet", [slot(100, 1, 46, 3), unstored(100)]),
+        twice("a twin of one that is not stored yet", [unstored(100), slot(100, 1, 46, 3)]),
+        twice("twins that are not stored yet", [unstored(100), unstored(100)]),
+        twice("twins that are not stored yet, one extended", [unstored(16484), unstored(100)]),
+        twice("an extended twin that is not stored yet", [slot(100, 1, 46, 3), unstored(16484)]),
+        twice("two machine types of all ones", [unstored(107), slot(16491, 2, ALL_ONES, ALL_ONES)]),
+    ]
+}
+
+/// An offset or a length of all ones, but not both.
+fn almost_unstored() -> Vec<Case> {
+    let put = |tag, offset, length| changed(|image| image.put(SECOND, &slot(tag, 1, offset, length)));
+    let outside = |of, offset, length| refused(of, "8", put(101, offset, length), [8, 22]);
+    let (outside_twin, twin) = (put(100, ALL_ONES, 1), put(100, ALL_ONES, ALL_ONES));
+    vec![
+        outside("1 byte at an offset of all ones", ALL_ONES, 1),
+        outside("one byte less than all ones at all ones", ALL_ONES, ALL_ONES - 1),
+        outside("a length of all ones one byte before", ALL_ONES - 1, ALL_ONES),
+        outside("a length of all ones inside", 49, ALL_ONES),
+        outside("a length of all ones on the header", 0, ALL_ONES),
+        in_order("a twin at an offset of all ones", ("8", outside_twin, [8, 22]), ("10", twin, [10, 22])),
+        granted("no bytes at an offset of all ones", put(101, ALL_ONES, 0), &[1, 3, 2], Written::default()),
+    ]
 }
 
 fn open(image: Image) -> Ask {

@@ -1,7 +1,7 @@
 //! Number types, dimensions and arrays.
 
 use super::ask::{Ask, Rooms, Written};
-use super::{fault, granted, over, Case, Fault};
+use super::{element_first, fault, granted, over, refused, Case, Fault};
 use crate::cases::pieces::{file, numbers16, numbers32, Image};
 use crate::tally::Call;
 
@@ -63,7 +63,7 @@ fn number_types() -> Vec<Case> {
     let ask = Ask { reference: 1, ..Ask::on(Call::ReadNumberType, with_record(106, vec![1, 24, 32, 1])) };
     let read = [granted("a number type", ask, &[1, 24, 32, 1], Written::default())];
     let bad = over(&BAD_TYPE, &read);
-    [over(&ABSENT, &read), over(&EXTENDED_TYPE, &read), over(&EXTENDED_TYPE, &bad), bad, read.into()].concat()
+    [element_first(&ABSENT, &EXTENDED_TYPE, &read, &bad), bad, read.into()].concat()
 }
 
 fn dimensions() -> Vec<Case> {
@@ -71,15 +71,21 @@ fn dimensions() -> Vec<Case> {
     let ask = Ask { tag: 300, reference: 1, ..Ask::on(Call::ReadDimension, with_record(300, record)) };
     let read = [granted("a dimension", ask, &[12, 10, 106, 2, 1, 2, 11, 7], Written::default())];
     let bad = over(&BAD_DIMENSION, &read);
-    [
-        over(&ABSENT, &read),
-        over(&NO_DIMENSION, &read),
-        over(&EXTENDED_DIMENSION, &read),
-        over(&EXTENDED_DIMENSION, &bad),
-        bad,
-        read.into(),
+    let element = element_first(&ABSENT, &EXTENDED_DIMENSION, &read, &bad);
+    [over(&NO_DIMENSION, &read), element, bad, machine_types(), read.into()].concat()
+}
+
+/// Any tag can be read as a dimension. A machine type has no bytes, and is not taken for one that is not stored yet.
+fn machine_types() -> Vec<Case> {
+    let read = |tag| {
+        let mut image = with_record(tag, Vec::new());
+        image.unstore(SLOT);
+        Ask { tag, reference: 1, ..Ask::on(Call::ReadDimension, image) }
+    };
+    vec![
+        refused("a machine type of all ones", "15 length", read(107), [15, 22]),
+        refused("an extended machine type of all ones", "12", read(16491), [12, 22]),
     ]
-    .concat()
 }
 
 /// The record, then the rooms.
@@ -91,15 +97,12 @@ fn arrays() -> Vec<Case> {
     let read = [granted("an array", ask, &[2], written)];
     let bad = [over(&SHORT_ARRAY, &read), over(&NO_RANK, &read)].concat();
     let small = [over(&SMALL_SIZES, &read), over(&SMALL_PAIRS, &read)].concat();
+    let later = [&bad[..], &small].concat();
     [
-        over(&ABSENT, &read),
-        over(&EXTENDED_ARRAY, &read),
-        over(&EXTENDED_ARRAY, &bad),
-        over(&EXTENDED_ARRAY, &small),
+        element_first(&ABSENT, &EXTENDED_ARRAY, &read, &later),
         over(&SHORT_ARRAY[1..], &small),
         over(&NO_RANK, &over(&SMALL_PAIRS[1..], &read)),
-        bad,
-        small,
+        later,
         read.into(),
     ]
     .concat()

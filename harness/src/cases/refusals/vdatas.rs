@@ -1,7 +1,7 @@
 //! Vdata heads, by both calls that read them, and Vdata values.
 
 use super::ask::{Ask, Rooms, Written};
-use super::{fault, granted, over, Case, Fault};
+use super::{element_first, fault, granted, over, Case, Fault, UNSTORED};
 use crate::cases::pieces::{file, numbers16, numbers32, text, Image};
 use crate::tally::Call;
 use hdf4_sys::Field;
@@ -71,8 +71,10 @@ const SMALL_TABLE: [Fault; 2] = [
 /// Of two heads the first has 256 fields, the second 257.
 const MANY_FIELDS: [Fault; 1] = [fault("15 count", "257 fields", [15, 34], |ask| ask.reference = 2)];
 
-const EXTENDED_SECOND: [Fault; 1] =
-    [fault("12", "an extended head", [12, 34], |ask| ask.image.put_tag(SECOND_HEAD, EXTENDED_HEAD))];
+const BAD_SECOND: [Fault; 2] = [
+    fault("29", "a head that is not stored yet", [29, 34], |ask| ask.image.unstore(SECOND_HEAD)),
+    fault("12", "an extended head", [12, 34], |ask| ask.image.put_tag(SECOND_HEAD, EXTENDED_HEAD)),
+];
 
 const UNKNOWN_TYPES: [Fault; 1] = [fault("16", "an unknown type in both heads", [16, 22], |ask| {
     ask.image.put16_in(HEAD, TYPE, 26);
@@ -90,6 +92,9 @@ const INDICES: [Fault; 6] = [
 
 const NO_DATA: [Fault; 1] = [fault("11 data", "no data", [11, 0], |ask| ask.image.put_reference(DATA, 7))];
 
+const UNSTORED_DATA: [Fault; 1] =
+    [fault("29 data", "data that are not stored yet", [29, 34], |ask| ask.image.unstore(DATA))];
+
 const EXTENDED_VALUES: [Fault; 1] =
     [fault("12 data", "extended data", [12, 34], |ask| ask.image.put_tag(DATA, EXTENDED_DATA))];
 
@@ -97,6 +102,9 @@ const SHORT_DATA: [Fault; 2] = [
     fault("15 data", "11 bytes of data", [15, 34], |ask| ask.image.put_length(DATA, 11)),
     fault("15 data", "no bytes of data", [15, 34], |ask| ask.image.put_length(DATA, 0)),
 ];
+
+/// What is judged of a head that is there, before the room, the indices and the data.
+const OF_HEAD: [&[Fault]; 5] = [&UNSTORED, &EXTENDED, &LAYOUT, &UNKNOWN_TYPE, &SIZES];
 
 pub fn cases() -> Vec<Case> {
     let heads = [heads_of(read(), &SMALL), heads_of(read_fields(), &SMALL_TABLE)];
@@ -127,26 +135,19 @@ fn read_fields() -> Case {
 fn heads_of(read: Case, small: &[Fault]) -> Vec<Case> {
     let read = [read];
     let small = over(small, &read);
-    let faults = head_faults(&read);
-    let rest = [&LAYOUT[..], &UNKNOWN_TYPE, &SIZES, &EXTENDED].map(|first| over(first, &small));
-    [faults, rest.concat(), small, read.into()].concat()
+    [head_faults(&read), over(&OF_HEAD.concat(), &small), small, read.into()].concat()
 }
 
 /// What can be wrong with a head, alone and two at once.
 fn head_faults(read: &[Case]) -> Vec<Case> {
     let (layout, types, sizes) = (over(&LAYOUT, read), over(&UNKNOWN_TYPE, read), over(&SIZES, read));
+    let bytes = [&layout[..], &types, &sizes].concat();
     [
-        over(&ABSENT, read),
-        over(&EXTENDED, read),
+        element_first(&ABSENT, &EXTENDED, read, &bytes),
         over(&UNKNOWN, read),
-        over(&EXTENDED, &layout),
-        over(&EXTENDED, &types),
-        over(&EXTENDED, &sizes),
         over(&LAYOUT, &types),
         over(&UNKNOWN_TYPE, &sizes),
-        layout,
-        types,
-        sizes,
+        bytes,
     ]
     .concat()
 }
@@ -156,16 +157,16 @@ fn values() -> Vec<Case> {
     let ask = Ask { reference: 1, indices: [1, 1, 0], ..Ask::on(Call::ReadValue, vdata()) };
     let read = [granted("the last value", ask, &[1, 0xffff_ffff_8000_0000], Written::default())];
     let indices = over(&INDICES, &read);
-    let short = over(&SHORT_DATA, &read);
-    let data = [over(&NO_DATA, &read), over(&EXTENDED_VALUES, &read), short.clone()].concat();
+    let (extended, short) = (over(&EXTENDED_VALUES, &read), over(&SHORT_DATA, &read));
+    let data = [over(&NO_DATA, &read), over(&UNSTORED_DATA, &read), extended.clone(), short.clone()].concat();
     let later = [&indices[..], &data].concat();
-    let rest = [&LAYOUT[..], &UNKNOWN_TYPE, &SIZES, &EXTENDED].map(|first| over(first, &later));
     [
         head_faults(&read),
-        rest.concat(),
+        over(&OF_HEAD.concat(), &later),
         over(&ABSENT, &indices),
         over(&ABSENT, &data[1..]),
         over(&INDICES, &data),
+        over(&UNSTORED_DATA, &[&extended[..], &short].concat()),
         over(&EXTENDED_VALUES, &short),
         later,
         read.into(),
@@ -191,7 +192,7 @@ fn long_head(read: Case, last: &[Fault]) -> Vec<Case> {
     let read = [read];
     let many = over(&MANY_FIELDS, &read);
     let later = [over(&UNKNOWN_TYPES, &read), over(last, &read)].concat();
-    [over(&EXTENDED_SECOND, &many), over(&MANY_FIELDS, &later), many, read.into()].concat()
+    [over(&BAD_SECOND, &many), over(&MANY_FIELDS, &later), many, read.into()].concat()
 }
 
 fn long_ask(call: Call) -> Ask {

@@ -16,7 +16,8 @@ const KIND: usize = 0;
 const IN_32_BITS: [u32; 8] = [0, 2, 3, 5, 0x0001_0000, 0x0001_0001, 0x0100_0000, u32::MAX];
 const IN_16_BITS: [u16; 7] = [0, 0, 2, 3, 5, 0x0100, u16::MAX];
 
-const OF_THE_RECORD: [Fault; 10] = [
+const OF_THE_RECORD: [Fault; 11] = [
+    record_unstored,
     record_cut,
     record_size,
     other_kind,
@@ -29,8 +30,9 @@ const OF_THE_RECORD: [Fault; 10] = [
     absurd_block_length,
 ];
 
-const OF_THE_LINKS: [Fault; 15] = [
+const OF_THE_LINKS: [Fault; 17] = [
     table_absent,
+    table_unstored,
     table_extended,
     table_short,
     table_again,
@@ -38,6 +40,7 @@ const OF_THE_LINKS: [Fault; 15] = [
     table_elsewhere,
     table_is_a_block,
     block_absent,
+    block_unstored,
     block_extended,
     block_short,
     first_block_size,
@@ -63,13 +66,18 @@ pub fn spoil_links(random: &mut Random, plan: &mut Plan) {
 /// Something is wrong with the last table, or with the reference that leads to it.
 pub fn spoil_last_table(random: &mut Random, plan: &mut Plan) {
     let last = plan.tables.len() - 1;
-    match random.below(5) {
+    match random.below(6) {
         0 => plan.tables[last].tag = FREE,
-        1 => plan.tables[last].extend(),
-        2 => plan.tables[last].bytes.truncate(random.below(4)),
-        3 => lead_to(plan, last, 0),
+        1 => plan.tables[last].set_aside(),
+        2 => plan.tables[last].extend(),
+        3 => plan.tables[last].bytes.truncate(random.below(4)),
+        4 => lead_to(plan, last, 0),
         _ => lead_to(plan, last, random.u16()),
     }
+}
+
+fn record_unstored(_: &mut Random, plan: &mut Plan) {
+    plan.record.set_aside();
 }
 
 fn record_cut(random: &mut Random, plan: &mut Plan) {
@@ -141,6 +149,10 @@ fn table_absent(random: &mut Random, plan: &mut Plan) {
     any(random, &mut plan.tables).tag = FREE;
 }
 
+fn table_unstored(random: &mut Random, plan: &mut Plan) {
+    any(random, &mut plan.tables).set_aside();
+}
+
 fn table_extended(random: &mut Random, plan: &mut Plan) {
     any(random, &mut plan.tables).extend();
 }
@@ -196,6 +208,10 @@ fn lead_to(plan: &mut Plan, index: usize, reference: u16) {
 
 fn block_absent(random: &mut Random, plan: &mut Plan) {
     any(random, &mut plan.blocks).tag = FREE;
+}
+
+fn block_unstored(random: &mut Random, plan: &mut Plan) {
+    any(random, &mut plan.blocks).set_aside();
 }
 
 fn block_extended(random: &mut Random, plan: &mut Plan) {

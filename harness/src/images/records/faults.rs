@@ -22,17 +22,22 @@ pub fn spoil_pieces(random: &mut Random, pieces: &mut Vec<Piece>) {
     }
 }
 
-/// A record cut short or made longer, or one of the elements missing or extended.
+/// A record cut short or made longer, or one of the elements missing, not stored yet or extended.
 pub fn spoil_parts(random: &mut Random, parts: &mut [Part]) {
     let part = &mut parts[random.below(parts.len())];
     let length = part.bytes.len();
-    match random.below(8) {
+    match random.below(10) {
         0 | 1 => part.bytes.truncate(length.saturating_sub(1)),
         2 => part.bytes.truncate(random.below(length + 1)),
         3 => part.bytes.clear(),
         4 => part.bytes.push(0),
         5 => part.bytes.extend([0, 3, 0, 0]),
         6 => part.tag = FREE,
+        7 => part.set_aside(),
+        8 => {
+            part.set_aside();
+            part.extend();
+        }
         _ => part.extend(),
     }
 }

@@ -114,17 +114,18 @@ fn group(random: &mut Random, index: u16, members: Vec<[u16; 2]>) -> Part {
     if random.once_in(3) {
         bytes.push(0);
     }
-    Part { tag: GROUP, reference: index + 1, bytes }
+    Part::new(GROUP, index + 1, bytes)
 }
 
-/// A group that is missing, extended, cut, or of another version.
+/// A group that is missing, not stored yet, extended, cut, or of another version.
 fn spoil(random: &mut Random, parts: &mut [Part]) {
     let part = &mut parts[random.below(parts.len())];
-    match random.below(5) {
+    match random.below(6) {
         0 => part.tag = FREE,
-        1 => part.extend(),
-        2 => part.bytes.truncate(random.below(part.bytes.len() + 1)),
-        3 => part.bytes.truncate(part.bytes.len().saturating_sub(9)),
+        1 => part.set_aside(),
+        2 => part.extend(),
+        3 => part.bytes.truncate(random.below(part.bytes.len() + 1)),
+        4 => part.bytes.truncate(part.bytes.len().saturating_sub(9)),
         _ => part.put(0, &[0xff, 0xff]),
     }
 }

@@ -29,7 +29,7 @@ unchanged : (c : tie.After-follow) → let out = c .before .before .before .befo
 unchanged c = Numbers.put-nowhere _ _ _ (c .follow .ensures .leaves)
 
 content-requires : tie.Need-content-requires
-content-requires c κs = c .before .before .pre .1
+content-requires c κs = (c .before .before .pre .1, c .before .before .pre .2)
 
 record-fault-requires : tie.Need-record-fault-requires
 record-fault-requires c κs = search needs

@@ -48,8 +48,11 @@ enum-told-2 c = search needs
 enum-known-slot : tie.Need-enum-known-slot
 enum-known-slot c = search needs
 
+enum-known-slot-2 : tie.Need-enum-known-slot-2
+enum-known-slot-2 c = search needs
+
 size-in-blocks-requires : tie.Need-size-in-blocks-requires
-size-in-blocks-requires c κs = Found.extended-low _ (λ i. c .before .before .before .before .before .before .before .before .shared-slice-known .given i .fits) _ _ _ _ (c .before .before .before .find .ensures) _ (c .before .slot .given .1)
+size-in-blocks-requires c κs = Found.extended-low _ (λ i. c .before .before .before .before .before .before .before .before .shared-slice-known .given i .fits) _ _ _ _ (c .before .before .before .find .ensures) _ (c .before .slot2 .given .1)
 
 enum-known-length : tie.Need-enum-known-length
 enum-known-length c = search needs
@@ -58,11 +61,14 @@ returns-2 : tie.Need-returns-2
 returns-2 c = sym (Sizes.size-goes _ _ _ (opens (c .before .before .before) .sound) _ (found (c .before .before) ∙ c .enum-told2 .given .1))
 
 returns-3 : tie.Need-returns-3
-returns-3 c = c .size-in-blocks .ensures ∙ sym (Sizes.size-goes _ _ _ (opens (c .before .before .before .before .before) .sound) _ (found (c .before .before .before .before) ∙ c .before .before .slot .given .1))
+returns-3 c = sym (Sizes.size-goes _ _ _ (opens (c .before .before .before .before) .sound) _ (found (c .before .before .before) ∙ c .before .slot .given .1))
 
 returns-4 : tie.Need-returns-4
+returns-4 c = c .size-in-blocks .ensures ∙ sym (Sizes.size-goes _ _ _ (opens (c .before .before .before .before .before) .sound) _ (found (c .before .before .before .before) ∙ c .before .before .slot2 .given .1))
+
+returns-5 : tie.Need-returns-5
 unfolding inPlace
-returns-4 c = sym (Sizes.size-goes _ _ _ (opens (c .before .before .before .before) .sound) _ (found (c .before .before .before) ∙ c .before .length .given .1) ∙ Sizes.size-granted _ (inPlace _ _ _) refl)
+returns-5 c = sym (Sizes.size-goes _ _ _ (opens (c .before .before .before .before) .sound) _ (found (c .before .before .before) ∙ c .before .length .given .1) ∙ Sizes.size-granted _ (inPlace _ _ _) refl)
 
 pub size-spec : {M : Type 1} → statement M
 size-spec =
@@ -76,8 +82,10 @@ size-spec =
     find-requires
     enum-told-2
     enum-known-slot
+    enum-known-slot-2
     size-in-blocks-requires
     enum-known-length
     returns-2
     returns-3
-    returns-4)
+    returns-4
+    returns-5)
