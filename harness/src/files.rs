@@ -46,11 +46,11 @@ pub fn show(path: &Path, random: &mut Random, tally: &mut Tally) -> Result<(), S
     Ok(())
 }
 
-/// Length and offset of an element, which are all ones where it is not stored.
+/// Length and offset of an element that is stored.
 fn part_of(slot: &Slot) -> String {
-    match (slot.length, slot.offset) {
-        (u32::MAX, u32::MAX) => "not stored".into(),
-        (length, offset) => format!("{length} bytes at {offset}"),
+    match slot.is_unstored() {
+        true => "not stored".into(),
+        false => format!("{} bytes at {}", slot.length, slot.offset),
     }
 }
 

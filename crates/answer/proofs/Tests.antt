@@ -101,6 +101,10 @@ in-append x (y ∷ xs) ys (inl e) = inl (inl e)
 in-append x (y ∷ xs) ys (inr h) = elim (in-append x xs ys h) [ inl i ↦ inl (inr i) | inr i ↦ inr i ]
 
 -- one more at the end
+pub in-parted : (x : ℕ) (l : List ℕ) → In x l → (before : List ℕ) × (after : List ℕ) × (l ≡ before ++ (x ∷ after))
+in-parted x (y ∷ l) (inl e) = ([], l, ap (λ z. z ∷ l) (sym e))
+in-parted x (y ∷ l) (inr i) = let r = in-parted x l i in (y ∷ r .0, r .1, ap (λ m. y ∷ m) (r .2))
+
 pub in-snoc : (x : ℕ) (xs : List ℕ) (y : ℕ) → In x (xs ++ (y ∷ [])) → In x xs ⊎ (x ≡ y)
 in-snoc x xs y i = elim (in-append x xs (y ∷ []) i) [ inl j ↦ inl j | inr j ↦ elim j [ inl e ↦ inr e | inr z ↦ absurd z ] ]
 

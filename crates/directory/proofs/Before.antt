@@ -1,9 +1,9 @@
 -- Opening as it was before request (vii) of document 02, beside opening as it is: what it asked of a slot, and which images open now. Assumes nothing.
 use Prim.Native.Nat.{ℕ, _+_, _<_, _≤_}
 use native.Mathlib.Omega.{arith}
-use mathlib.Core.Path.{_≡_, refl, sym, ap, _∙_}
+use mathlib.Core.Path.{_≡_, refl, sym, _∙_}
 use mathlib.Core.Logic.{_⊎_, inl, inr}
-use mathlib.Core.List.{List, [], _∷_, _++_}
+use mathlib.Core.List.{List, [], _∷_}
 use lib.ListN.{length}
 use borrow.Author.Tests.{eq-eqb, ne-eqb}
 use Rattle.answer.specs.Search.{In}
@@ -12,10 +12,10 @@ use Rattle.answer.proofs.Tests.{by-test, same?, in-right}
 use Rattle.directory.specs.Blocks.{walked}
 use Rattle.directory.specs.Slots.{tagAt, offsetAt, lengthAt, baseTag, sizeAt, slotPlaces}
 use Rattle.directory.specs.Rules.{Live, Unstored, IsStored}
-use Rattle.directory.specs.Faults.{slotRules, Each, WholeChain, Faulty}
+use Rattle.directory.specs.Faults.{slotRules, WholeChain, Faulty}
 use Rattle.directory.specs.Before.{sizeBefore, rulesBefore, OpenedBefore, RefusedBefore, UnstoredAlone}
 use Rattle.directory.proofs.Slots.{live-is, unstored-is, size-lone, size-unstored, size-stored}
-use Rattle.directory.proofs.Faults.{each-judged, none-yet, whole-walked, Sound}
+use Rattle.directory.proofs.Faults.{each-at, each-judged, none-yet, whole-walked, Sound}
 use Rattle.directory.proofs.Rules.{blocks-exactly}
 
 -- ---- Sizes
@@ -90,13 +90,6 @@ module _ (s bs before : List ℕ) (p : ℕ) (short : length s ≤ 2147483647) wh
       ]
 
 -- ---- Slots in order
-
-in-parted : (x : ℕ) (l : List ℕ) → In x l → (before : List ℕ) × (after : List ℕ) × (l ≡ before ++ (x ∷ after))
-in-parted x (y ∷ l) (inl e) = ([], l, ap (λ z. z ∷ l) (sym e))
-in-parted x (y ∷ l) (inr i) = let r = in-parted x l i in (y ∷ r .0, r .1, ap (λ m. y ∷ m) (r .2))
-
-each-at : (Holds : List ℕ → ℕ → Type 0) (l : List ℕ) (x : ℕ) → Each Holds l → In x l → (before : List ℕ) × Holds before x
-each-at Holds l x all i = let r = in-parted x l i in (r .0, all (r .0) x (r .1) (r .2))
 
 -- every live slot is stored, or there is one that is not
 stored? : (s ps : List ℕ) → ((p : ℕ) → In p ps → Live s p → IsStored s p) ⊎ ((p : ℕ) × In p ps × Live s p × Unstored s p)

@@ -20,7 +20,7 @@ use Rattle.directory.specs.Slots.{tagAt, refAt, offsetAt, baseTag, eleme
 use Rattle.directory.specs.Opening.{slotsFrom, openChain, headed, openOf}
 use Rattle.directory.specs.Rules.{Apart, Linked, Live, Clashing}
 use Rattle.directory.specs.Faults.{headerRules, blockRules, slotRules, Each, BlocksHold, SlotsHold, Leads, WholeChain, AtBlock, Faulty}
-use Rattle.answer.proofs.Tests.{and-split, and-both, and-fails, or-split, or-either, or-clear, or-neither, test, not-is, by-test, not-both, fails, same?}
+use Rattle.answer.proofs.Tests.{and-split, and-both, and-fails, or-split, or-either, or-clear, or-neither, test, not-is, by-test, not-both, fails, same?, in-parted}
 use Rattle.answer.proofs.Search.{any-none, keep-takes, keep-skips}
 use Rattle.answer.proofs.Rules.{Goes, goes-done, goes-rule, judged, Tells, tells-done, tells-must, tells-judged, broken-below}
 use Rattle.directory.proofs.Blocks.{slots-snoc, chain-breaks, chain-ends, chain-goes}
@@ -157,6 +157,9 @@ pub each-keeps : (Holds : List ℕ → ℕ → Type 0) (Kept : List ℕ → Type
 each-keeps Holds Kept more before [] k all = rw append-nil k
 each-keeps Holds Kept more before (x ∷ rest) k all =
     rw append-snoc at (each-keeps Holds Kept more (before ++ (x ∷ [])) rest (more before x k (all before x rest refl)) (rw append-snoc all))
+
+pub each-at : (Holds : List ℕ → ℕ → Type 0) (l : List ℕ) (x : ℕ) → Each Holds l → In x l → (before : List ℕ) × Holds before x
+each-at Holds l x all i = let r = in-parted x l i in (r .0, all (r .0) x (r .1) (r .2))
 
 -- it holds of each, or there is a first of which it fails
 pub each-judged : (Holds Fails : List ℕ → ℕ → Type 0) → ((before : List ℕ) (x : ℕ) → Holds before x ⊎ Fails before x) → (before rest : List ℕ) → Each Holds before

@@ -14,7 +14,6 @@ use Rattle.directory.specs.Opening.{openOf}
 use Rattle.directory.specs.Lookup.{findOf}
 use Rattle.answer.specs.Search.{In}
 use Rattle.directory.specs.Rules.{Live, Unstored}
-use Rattle.directory.proofs.Slots.{unstored-is}
 use Rattle.directory.specs.Named.{Named}
 use Rattle.answer.proofs.Tests.{same?, zero?}
 use Rattle.directory.proofs.Rules.{opens-kept, kept-blocks, chain-kept}
@@ -56,9 +55,7 @@ module _ (s : List ℕ) (capacity : ℕ) (e : Edit) (t : List ℕ) (m : Made s c
 
   unstored-after : (p : ℕ) → In p (slotsOf s) → (p ≡ m .slot → ⊥) → Unstored t p ↔ Unstored s p
   unfolding slotsOf
-  unstored-after p i d =
-      let same = m .framed .stays p i d .1 .unstored in
-      ((λ u. unstored-is s p .0 (sym same ∙ unstored-is t p .1 u)), (λ u. unstored-is t p .0 (same ∙ unstored-is s p .1 u)))
+  unstored-after p i d = m .framed .stays p i d .1 .unstored
 
   content-after : (p : ℕ) → In p (slotsOf s) → Live s p → (p ≡ m .slot → ⊥) → contentAt t p ≡ contentAt s p
   unfolding slotsOf contentAt part

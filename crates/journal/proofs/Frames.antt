@@ -1,21 +1,20 @@
 -- An image in which one slot, and nothing else that opening reads, differs from an image that opens: it opens where that slot keeps the rules.
 -- Assumes nothing.
 use Prim.Native.Nat.{ℕ, _+_, _≤_, _<_}
-use mathlib.Core.Path.{_≡_, refl, sym, ap, ap₂, _∙_}
-use mathlib.Core.Logic.{_⊎_, inl, inr}
+use mathlib.Core.Path.{_≡_, refl, sym, _∙_}
+use mathlib.Core.Logic.{_↔_, _⊎_, inl, inr}
 use mathlib.Core.List.{List, [], _∷_}
-use mathlib.Core.Bool.{Bool, true, false, not, _&&_, _||_}
 use native.Mathlib.Omega.{arith}
 use lib.ListN.{length}
-use lib.Dec.{eqb}
 use Rattle.wire.specs.Numbers.{be}
 use Rattle.wire.proofs.Numbers.{Same, be-same}
-use Rattle.directory.specs.Limits.{most-bytes, lone-tag, all-ones}
+use Rattle.directory.specs.Limits.{most-bytes}
 use Rattle.directory.specs.Blocks.{slotCount, blockEnd}
-use Rattle.directory.specs.Slots.{tagAt, refAt, offsetAt, lengthAt, baseTag, unstoredAt, sizeAt, slotPlaces}
+use Rattle.directory.specs.Slots.{tagAt, refAt, offsetAt, sizeAt, slotPlaces}
 use Rattle.answer.specs.Search.{In}
-use Rattle.directory.specs.Rules.{Apart, Live, ElementKept, Clashing, Kept}
+use Rattle.directory.specs.Rules.{Apart, Live, Unstored, ElementKept, Clashing, Kept}
 use Rattle.answer.proofs.Tests.{same?, pairwise-in}
+use Rattle.directory.proofs.Slots.{unstored-same, size-same}
 use Rattle.directory.proofs.Rules.{Unclashing, clashing-sym, BlocksKept, ChainKept}
 use Rattle.journal.specs.Trailers.{slot-size}
 use Rattle.journal.proofs.Spacing.{pairwise-all, pairwise-map, slots-distinct}
@@ -26,26 +25,21 @@ pub record SlotSame (s t : List ℕ) (p : ℕ) : Type 0 where
   pub tag : tagAt t p ≡ tagAt s p
   pub ref : refAt t p ≡ refAt s p
   pub offset : offsetAt t p ≡ offsetAt s p
-  pub unstored : unstoredAt t p ≡ unstoredAt s p
+  pub unstored : Unstored t p ↔ Unstored s p
   pub size : sizeAt t p ≡ sizeAt s p
   pub bytes : Same s t p (p + slot-size)
 
 pub slot-same : (s t : List ℕ) (p : ℕ) → Same s t p (p + slot-size) → SlotSame s t p
-unfolding unstoredAt sizeAt
 slot-same s t p h =
     let a = be-same 2 s t p (λ i l u. h i l (omega arith)) in
     let o = be-same 4 s t (p + 4) (λ i l u. h i (omega arith) (omega arith)) in
     let n = be-same 4 s t (p + 8) (λ i l u. h i (omega arith) (omega arith)) in
-    let marked : ℕ → ℕ → ℕ → Bool = λ x y z. not (eqb (baseTag x) lone-tag) && (eqb y all-ones && eqb z all-ones) in
-    let u : unstoredAt t p ≡ unstoredAt s p = ap (λ x. marked x (offsetAt t p) (lengthAt t p)) a ∙ ap₂ (marked (tagAt s p)) o n in
     record {
       tag = a;
       ref = be-same 2 s t (p + 2) (λ i l u. h i (omega arith) (omega arith));
       offset = o;
-      unstored = u;
-      size =
-          ap₂ (λ (x y : ℕ). elim (eqb (baseTag x) lone-tag || unstoredAt t p) [ true ↦ 0 | false ↦ y ]) a n
-          ∙ ap {B = ℕ} (λ b. elim (eqb (baseTag (tagAt s p)) lone-tag || b) [ true ↦ 0 | false ↦ lengthAt s p ]) u;
+      unstored = unstored-same s t p a o n;
+      size = size-same s t p a o n;
       bytes = h;
     }
 

@@ -1,6 +1,6 @@
 -- What a reader wants to know of the values of Vdatas: their bits are exactly the element's, they lie inside it, which values are given and which
 -- are refused, and what is given as facts. Assumes nothing.
-use Prim.Native.Nat.{ℕ, _+_, _*_, _%_, _^_, _<_, _≤_}
+use Prim.Native.Nat.{ℕ, _+_, _%_, _^_, _≤_}
 use native.Mathlib.Nat.{suc-ne-zero}
 use native.Mathlib.Omega.{arith}
 use mathlib.Core.Path.{_≡_, sym, ap, _∙_}
@@ -8,7 +8,7 @@ use mathlib.Core.Logic.{_↔_, _⊎_, inl, inr}
 use mathlib.Core.List.{List, [], _∷_}
 use lib.ListN.{length, getD}
 use Rattle.answer.specs.Answer.{grant, refuse}
-use Rattle.answer.specs.Rules.{Rules, done, rule, AllHold, FirstBroken}
+use Rattle.answer.specs.Rules.{done, AllHold, FirstBroken}
 use Rattle.answer.proofs.Rules.{broken-then, first-then, then-broken, broken-below}
 use Rattle.wire.specs.Numbers.{be, Bytes}
 use Rattle.directory.specs.Opening.{openOf}
@@ -22,13 +22,13 @@ use Rattle.records.proofs.Readings.{plain-bytes, content-bytes}
 use Rattle.records.proofs.RecordRules.{by-exactly, first-unstored, opened-unstored}
 use Rattle.vhead.specs.Limits.{head-tag}
 use Rattle.vhead.specs.Heads.{headIn, fieldAt}
-use Rattle.vhead.specs.HeadRules.{recordsOf, recordSizeOf, fieldCount, orderOf, headRules}
+use Rattle.vhead.specs.HeadRules.{headRules}
 use Rattle.vhead.proofs.HeadRules.{head-below}
 use Rattle.vhead.proofs.Heads.{head-is}
 use Rattle.vdata.specs.Patterns.{valueAt, valueKind, valueBits}
 use Rattle.vdata.specs.Limits.{values-tag}
 use Rattle.vdata.specs.Values.{placeOf, valueIn, valueOf}
-use Rattle.vdata.specs.ValueRules.{Indexed, ValueIs, Readable, afterRules, valueRules}
+use Rattle.vdata.specs.ValueRules.{Indexed, ValueIs, Readable, indexRules, wholeRules, afterRules, valueRules}
 use Rattle.vdata.proofs.Values.{granted-readable, readable-granted}
 use Rattle.vdata.proofs.ValueRules.{lies-inside, facts-hold, value-once, value-by}
 use Rattle.vdata.proofs.Patterns.{exact}
@@ -74,9 +74,9 @@ module _ (s : List ℕ) (ref r i c : ℕ) where
       let e = recordBytes s (find s 1962 ref) in
       let head = recordRules s 1962 ref (λ q e. headRules q e done) in
       let after = afterRules s e (find s 1963 ref) r i c in
-      let whole : Rules = rule 15 (slotIn (find s 1963 ref)) (recordsOf e * recordSizeOf e ≤ length (recordBytes s (find s 1963 ref))) done in
+      let indices = indexRules e r i c in
+      let whole = wholeRules s e (find s 1963 ref) in
       let values = plainRules s (find s 1963 ref) whole in
-      let indices = rule 17 0 (r < recordsOf e) (rule 17 0 (i < fieldCount e) (rule 17 0 (c < orderOf e i) done)) in
       let first = opened-unstored s 1962 ref p (headRules (slotIn (find s 1962 ref)) e done) (head-below (slotIn (find s 1962 ref)) e done tt) in
       let second : (openOf s .number ≡ 0) → FirstBroken values 29 p ↔ (Named s 1963 ref p × Unstored s p) =
       λ opens. first-unstored s 1963 ref p opens whole (omega arith, tt) in (

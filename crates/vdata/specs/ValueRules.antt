@@ -7,7 +7,7 @@ use mathlib.Core.Bool.{false}
 use mathlib.Core.List.{List}
 use lib.ListN.{length, getD}
 use Rattle.answer.specs.Search.{Hit, hit}
-use Rattle.answer.specs.Rules.{Rules, done, rule}
+use Rattle.answer.specs.Rules.{Rules, done, rule, followed}
 use Rattle.wire.specs.Numbers.{be}
 use Rattle.directory.specs.Opening.{openOf}
 use Rattle.directory.specs.Rules.{IsStored}
@@ -70,16 +70,17 @@ pub record Readable (s : List ℕ) (ref r i c : ℕ) : Type 0 where
 
 -- ---- The rules, in the order in which they are judged
 
--- after a sound head of the bytes e: a record, a field and a component that there are, then values that are there, stored, in plain storage, at least as
--- long as all records
+-- a record, a field and a component that there are, by the bytes e of the head
+abbrev pub indexRules : List ℕ → ℕ → ℕ → ℕ → Rules
+indexRules e r i c = rule 17 0 (r < recordsOf e) (rule 17 0 (i < fieldCount e) (rule 17 0 (c < orderOf e i) done))
+
+-- values at least as long as all records
+abbrev pub wholeRules : List ℕ → List ℕ → Hit → Rules
+wholeRules s e values = rule 15 (slotIn values) (recordsOf e * recordSizeOf e ≤ length (recordBytes s values)) done
+
+-- after a sound head: the indices, then values that are there, stored, in plain storage, and whole
 abbrev pub afterRules : List ℕ → List ℕ → Hit → ℕ → ℕ → ℕ → Rules
-afterRules s e values r i c =
-    rule 17 0 (r < recordsOf e)
-    (rule 17 0 (i < fieldCount e)
-    (rule 17 0 (c < orderOf e i)
-    (plainRules s values
-    (rule 15 (slotIn values) (recordsOf e * recordSizeOf e ≤ length (recordBytes s values))
-    done))))
+afterRules s e values r i c = followed (indexRules e r i c) (plainRules s values (wholeRules s e values))
 
 abbrev pub valueRules : List ℕ → ℕ → ℕ → ℕ → ℕ → Rules
 valueRules s ref r i c = recordRules s 1962 ref (λ p e. headRules p e (afterRules s e (find s 1963 ref) r i c))

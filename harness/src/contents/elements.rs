@@ -2,11 +2,8 @@
 
 use super::recorded::{Element, Storage};
 use super::{number_at, refused, same, slot_of, Counts, Outcome};
-use crate::reader::{EXTENDED, MACHINE_TYPE};
+use crate::reader::{EXTENDED, MACHINE_TYPE, UNSTORED};
 use hdf4_sys::{self as library, CopyAnswer, ListAnswer, SizeAnswer, NOT_STORED, STORAGE};
-
-/// Offset and length of an element that is not stored.
-const ALL_ONES: [u32; 2] = [u32::MAX; 2];
 
 /// An element as it is asked for, by either form of its tag.
 struct Asked<'a> {
@@ -27,7 +24,7 @@ pub fn compare_list(image: &[u8], elements: &[Element]) -> Outcome {
             Storage::Plain(_) | Storage::Unstored => element.tag,
         };
         same("listed element", [listed[0], listed[1]], [tag.into(), element.reference.into()])?;
-        same(&format!("{listed:?} is not stored"), listed[2..] == ALL_ONES, element.is_unstored())?;
+        same(&format!("{listed:?} is not stored"), listed[2..] == [UNSTORED; 2], element.is_unstored())?;
         if let Storage::Special(kind) = element.storage {
             same("kind of storage", number_at(image, listed[2].into()), kind)?;
         }
