@@ -22,10 +22,10 @@ extern "C" {
 #endif
 
 /* The version of the library that this header is of. */
-#define HDF4_VERSION "0.2.2"
+#define HDF4_VERSION "0.2.3"
 #define HDF4_VERSION_MAJOR 0
 #define HDF4_VERSION_MINOR 2
-#define HDF4_VERSION_PATCH 2
+#define HDF4_VERSION_PATCH 3
 
 /* The most bytes that an image has. */
 #define HDF4_MOST_BYTES 2147483647
@@ -41,6 +41,9 @@ extern "C" {
 
 /* The most pairs that the listing of a group has. */
 #define HDF4_MOST_PAIRS 4096
+
+/* Added to the code of a field's type where numbers stand low byte first. */
+#define HDF4_LITTLE_ENDIAN 16384
 
 /* Why a call is refused. */
 enum hdf4_refusal {
@@ -59,7 +62,7 @@ enum hdf4_refusal {
     HDF4_CHAIN = 13,       /* the record of the element's linked blocks breaks its layout */
     HDF4_SMALL = 14,       /* the lent output is too short */
     HDF4_RECORD = 15,      /* a record breaks its layout */
-    HDF4_TYPE = 16,        /* a number type is not known */
+    HDF4_TYPE = 16,        /* a number type is not known, also less 16384 */
     HDF4_NO_VALUE = 17,    /* the Vdata has no such record, field or component */
     HDF4_PRESENT = 18,     /* an element with that base tag and reference is there already */
     HDF4_NO_ROOM = 19,     /* the buffer is shorter than the new image */
@@ -306,7 +309,7 @@ typedef struct {
 
 /* A field of a Vdata. */
 typedef struct {
-    uint16_t type;        /* the type's code */
+    uint16_t type;        /* the type's code, as it is stored */
     uint16_t size;        /* bytes of the field in a record */
     uint16_t offset;      /* bytes of the fields before it */
     uint16_t order;       /* numbers of the field in a record */
@@ -401,7 +404,8 @@ hdf4_pack_answer hdf4_pack_group(const uint16_t *members, size_t members_count, 
                                  uint16_t version, uint16_t more, uint8_t *out, size_t room);
 
 /* Reads the head of a Vdata, tag 1962: type, size, offset and order of each field, and place in the image and length of each field's
- * name. Tables of 4 times and 2 times HDF4_MOST_FIELDS entries are always enough. */
+ * name. A type is given as it is stored, with HDF4_LITTLE_ENDIAN added where numbers stand low byte first. Tables of 4 times and 2 times
+ * HDF4_MOST_FIELDS entries are always enough. */
 hdf4_vdata_answer hdf4_read_vdata(const uint8_t *image, size_t n, uint16_t ref, uint16_t *fields, size_t fields_room, uint32_t *names,
                                   size_t names_room);
 
@@ -413,7 +417,8 @@ hdf4_pack_answer hdf4_pack_vdata(uint16_t interlace, uint32_t records, uint16_t 
                                  uint16_t extension_tag, uint16_t extension_ref, uint16_t version, uint16_t more, uint8_t *out,
                                  size_t room);
 
-/* Reads one value of a Vdata, its head of tag 1962 and its data of tag 1963. All indices count from 0. */
+/* Reads one value of a Vdata, its head of tag 1962 and its data of tag 1963. All indices count from 0. Kind and bits are the number's,
+ * whichever of its bytes stands first in the image. */
 hdf4_value_answer hdf4_read_value(const uint8_t *image, size_t n, uint16_t ref, uint64_t record, uint64_t field, uint64_t component);
 
 /* Lists the members of a Vgroup in order, each member of tag 1965 followed by its own members: tag and reference of each. There are at

@@ -125,6 +125,6 @@ fn main() -> ExitCode {
     let flushed = print.flush();
     let Err(fault) = done.and(flushed) else { return ExitCode::SUCCESS };
     let status = fault.status();
-    fault.messages().iter().for_each(|message| print::tell(message));
+    fault.messages().iter().for_each(print::tell);
     ExitCode::from(status)
 }

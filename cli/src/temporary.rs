@@ -122,8 +122,10 @@ pub fn remove_left_over(folder: &Path) {
     }
 }
 
+type IsLeft = Box<dyn Fn(&Metadata) -> bool>;
+
 /// Which files are a killed program's, if they have a certain name.
-fn left_over(name: &[u8]) -> Option<Box<dyn Fn(&Metadata) -> bool>> {
+fn left_over(name: &[u8]) -> Option<IsLeft> {
     let rest = name.strip_prefix(b".hdf4-")?;
     if let Some(numbers) = rest.strip_suffix(b".new") {
         numbers_of::<2>(numbers)?;

@@ -9,12 +9,13 @@ use crate::progress::Progress;
 use crate::sorted::Sorted;
 use crate::text::{quoted, refusal};
 use crate::words::{number, Words};
-use hdf4::{Error, Field, Rule, Value, Vdata};
+use hdf4::{base_type, ByteOrder, Error, Field, Rule, Value, Vdata};
 use std::borrow::Cow;
 use std::os::unix::ffi::OsStrExt;
 
 const HEAD: u16 = 1962;
 const VALUES: u16 = 1963;
+/// Base types of characters.
 const CHARACTERS: [u16; 2] = [3, 4];
 
 /// How many references a message names.
@@ -192,6 +193,7 @@ impl<'a> Table<'a> {
             json.open('{')?;
             json.text_entry("name", field.name)?;
             json.entry("type", field.number_type)?;
+            json.text_entry("byte_order", byte_order(field))?;
             json.entry("order", field.order)?;
             json.close('}')?;
         }
@@ -214,7 +216,15 @@ impl<'a> Table<'a> {
 }
 
 fn is_text(field: &Field) -> bool {
-    CHARACTERS.contains(&field.number_type)
+    CHARACTERS.contains(&base_type(field.number_type))
+}
+
+/// How JSON tells the byte order of a field.
+fn byte_order(field: &Field) -> &'static [u8] {
+    match field.byte_order() {
+        ByteOrder::BigEndian => b"big",
+        ByteOrder::LittleEndian => b"little",
+    }
 }
 
 /// A number; a string where JSON has no number for it.

@@ -57,13 +57,70 @@ fn roads(records: impl Iterator<Item = usize>) -> String {
 }
 
 #[test]
-fn values_are_printed_alike_by_record_and_by_field() {
+fn values_are_printed_alike_by_record_by_field_and_low_byte_first() {
     let path = file("vdata_interlaces.hdf");
     let expected = roads(0..7);
-    for word in ["2", "0x3", "by record", "by field"] {
+    for word in ["2", "0x3", "4", "by record", "by field", "low byte first"] {
         assert_eq!(granted(&["values", &path, word]), expected, "{word}");
     }
-    assert!(refused(&["values", &path, "4"]).contains("Vdata 4: TYPE: a number type is not known (number 16, place 82)"));
+}
+
+/// A base type, two numbers of it with their bytes high byte first, and how they are printed, in lines and in JSON.
+type Numbers = (u16, [&'static [u8]; 2], [&'static str; 2]);
+
+const NUMBERS: [Numbers; 10] = [
+    (3, [b"\"", b"\xe9"], ["\"\\\"\\xe9\"", "\"\\\"\\u00e9\""]),
+    (4, [b"n", b"o"], ["\"no\"", "\"no\""]),
+    (5, [b"\x3f\xc0\0\0", b"\x7f\x80\0\x01"], ["1.5 NaN", "[1.5,\"NaN\"]"]),
+    (6, [b"\xc0\x04\0\0\0\0\0\0", b"\x7f\xf0\0\0\0\0\0\0"], ["-2.5 inf", "[-2.5,\"Infinity\"]"]),
+    (20, [b"\x80", b"\x7f"], ["-128 127", "[-128,127]"]),
+    (21, [b"\x80", b"\x7f"], ["128 127", "[128,127]"]),
+    (22, [b"\xff\xfe", b"\x01\x2c"], ["-2 300", "[-2,300]"]),
+    (23, [b"\xff\xfe", b"\x01\x2c"], ["65534 300", "[65534,300]"]),
+    (24, [b"\x80\0\0\x01", b"\0\0\x01\x2c"], ["-2147483647 300", "[-2147483647,300]"]),
+    (25, [b"\x80\0\0\x01", b"\0\0\x01\x2c"], ["2147483649 300", "[2147483649,300]"]),
+];
+
+#[test]
+fn numbers_of_every_type_are_printed_alike_in_either_byte_order() {
+    let folder = Folder::new("orders");
+    for (order, added) in [("big", 0), ("little", 16384)] {
+        let fields = NUMBERS.map(|(base, [one, _], _)| (&b"n"[..], base + added, one.len() as u16, 2));
+        let mut values: Vec<Vec<u8>> = NUMBERS.iter().flat_map(|(_, numbers, _)| numbers.map(<[u8]>::to_vec)).collect();
+        if order == "little" {
+            values.iter_mut().for_each(|number| number.reverse());
+        }
+        let image = file_of(&[(HEAD, 1, &head(b"", 1, &fields)), (VALUES, 1, &values.concat())]);
+        let path = folder.holding("orders.hdf", &image);
+
+        let names = ["n"; 10].join("\t");
+        let line = NUMBERS.map(|(_, _, [line, _])| line).join("\t");
+        assert_eq!(granted(&["values", text(&path), "1"]), format!("{names}\n{line}\n"));
+
+        let json = granted(&["values", "--json", text(&path), "1"]);
+        let record = NUMBERS.map(|(_, _, [_, json])| json).join(",");
+        assert!(json.ends_with(&format!("\"records\":[[{record}]]}}\n")), "{json}");
+        for (field, (base, ..)) in Json::read(&json)["fields"].items().iter().zip(NUMBERS) {
+            assert_eq!(field.keys(), ["name", "type", "byte_order", "order"]);
+            assert_eq!((field["type"].number::<u16>(), field["byte_order"].text()), (base + added, order));
+        }
+    }
+}
+
+/// Types that are not known, also less 16384.
+#[test]
+fn values_of_other_types_are_refused() {
+    let folder = Folder::new("types");
+    for code in [0, 7, 26, 16384, 16391, 16410, 32768 + 24, 49152 + 24, 65535] {
+        let head = head(b"snow", 1, &[(b"n", code, 1, 1)]);
+        let path = folder.holding("types.hdf", &file_of(&[(HEAD, 1, &head), (VALUES, 1, b"n")]));
+        let path = text(&path);
+        let expected = "Vdata 1: TYPE: a number type is not known (number 16, place 10)";
+        for words in [&["values", path, "1"][..], &["values", "--json", path, "1"]] {
+            assert_eq!(refused(words), format!("hdf4: {path}: {expected}\n"), "{code}");
+        }
+        assert!(refused(&["values", path, "snow"]).contains("there is no Vdata named \"snow\", but 1 cannot be read"));
+    }
 }
 
 #[test]
@@ -111,8 +168,9 @@ fn json_has_text_for_what_is_no_number() {
     let values = [&floats[..], &1e300f64.to_be_bytes(), b"\x80"].concat();
     let path = folder.holding("odd.hdf", &file_of(&[(HEAD, 1, &head(b"\xff\\", 1, &fields)), (VALUES, 1, &values)]));
     let expected = "{\"ref\":1,\"name\":\"\\u00ff\\\\\",\"class\":\"class\",\"interlace\":0,\"fields\":[\
-        {\"name\":\"a\\\"\\n\",\"type\":5,\"order\":5},{\"name\":\"a\\\"\\n\",\"type\":6,\"order\":1},\
-        {\"name\":\"\\u00e9\",\"type\":4,\"order\":1}],\
+        {\"name\":\"a\\\"\\n\",\"type\":5,\"byte_order\":\"big\",\"order\":5},\
+        {\"name\":\"a\\\"\\n\",\"type\":6,\"byte_order\":\"big\",\"order\":1},\
+        {\"name\":\"\\u00e9\",\"type\":4,\"byte_order\":\"big\",\"order\":1}],\
         \"records\":[[[\"NaN\",\"Infinity\",\"-Infinity\",-0.0,0.1],1e300,\"\\u0080\"]]}\n";
     let printed = granted(&["values", "--json", text(&path), "1"]);
     assert_eq!(printed, expected);
@@ -228,8 +286,7 @@ fn a_vdata_with_records_that_are_not_stored_is_refused() {
     let path = text(&path);
     let expected = "NOT_STORED: the element is named in the directory and not stored yet (number 29, place 34)";
     assert_eq!(refused(&["values", path, "2"]), format!("hdf4: {path}: Vdata 2: {expected}\n"));
-    // Beside it the head of a type that is not known cannot be read.
-    assert!(refused(&["values", path, "by record"]).contains("there is no Vdata named \"by record\", but 2 cannot be read"));
+    assert!(refused(&["values", path, "by record"]).contains("there is no Vdata named \"by record\", but 1 cannot be read"));
 }
 
 /// A copy of a real file in which the values of a Vdata, in its second slot, are one byte short. Its path as a word.

@@ -156,7 +156,7 @@ static int write_value(FILE *out, int32 type, const uint8 *place)
     } value;
     int size = DFKNTsize(type);
     memcpy(&value, place, size);
-    switch (type & ~DFNT_LITEND) {
+    switch (type & ~(DFNT_LITEND | DFNT_NATIVE)) {
     case DFNT_INT8: fprintf(out, " i%d", value.i8); break;
     case DFNT_INT16: fprintf(out, " i%d", value.i16); break;
     case DFNT_INT32: fprintf(out, " i%d", (int)value.i32); break;

@@ -208,8 +208,7 @@ static void vdata_turns(void)
     v_close(file);
     for (int32 added = 1; added <= 8; added++) {
         int turn = added % 2;
-        file = NEED(Hopen("vdata_turns.hdf", DFACC_RDWR, 0));
-        NEED(Vstart(file));
+        file = v_open("vdata_turns.hdf");
         write_records(file, refs[turn], records[turn], added);
         records[turn] += added;
         v_close(file);

@@ -4,6 +4,7 @@
  *     ./make FOLDER
  */
 
+#include <stddef.h>
 #include <stdio.h>
 #include <stdlib.h>
 #include <string.h>
@@ -42,6 +43,65 @@ static const int32 number_types[] = {DFNT_CHAR8,  DFNT_UCHAR8, DFNT_INT8,   DFNT
 
 static const char *type_names[] = {"char8", "uchar8", "int8",   "uint8",   "int16",
                                    "uint16", "int32", "uint32", "float32", "float64"};
+
+/* Numbers of 1, 2, 4 and 8 bytes, by their bits: at the limits of a type, or of bytes that all differ. */
+struct extreme {
+    uint8 of_1;
+    uint16 of_2;
+    uint32 of_4;
+    unsigned long long of_8;
+};
+
+static const struct extreme extremes[] = {
+    {0x00, 0x0000, 0x00000000, 0x0000000000000000},
+    {0x01, 0x0001, 0x00000001, 0x0000000000000001}, /* 1; the least float */
+    {0x7f, 0x7fff, 0x7fffffff, 0x7fffffffffffffff}, /* the greatest signed number */
+    {0x80, 0x8000, 0x80000000, 0x8000000000000000}, /* the least signed number; negative zero */
+    {0xff, 0xffff, 0xffffffff, 0xffffffffffffffff}, /* -1; the greatest unsigned number */
+    {0x12, 0x1234, 0x12345678, 0x123456789abcdef0}, /* all bytes differ */
+    {0xfe, 0xfedc, 0xfedcba98, 0xfedcba9876543210}, /* all bytes differ, below 0 */
+    {0x41, 0x00ff, 0x3f800000, 0x3ff0000000000000}, /* the float 1 */
+    {0x5a, 0xff00, 0x7f7fffff, 0x7fefffffffffffff}, /* the greatest float */
+    {0x20, 0x0080, 0x807fffff, 0x800fffffffffffff}, /* a subnormal float, below 0 */
+    {0x0a, 0x0100, 0x7f800000, 0x7ff0000000000000}, /* infinity */
+    {0x7e, 0x7f80, 0xff800000, 0xfff0000000000000}, /* negative infinity */
+    {0x81, 0x807f, 0x7fc12345, 0x7ff8123456789abc}, /* a quiet NaN with a payload */
+    {0xa5, 0xa55a, 0xffb54321, 0xfff7654321fedcba}, /* a signalling NaN with a payload */
+};
+
+/* Where an extreme has its bits of so many bytes. */
+static const size_t places_of_bits[] = {
+    [1] = offsetof(struct extreme, of_1),
+    [2] = offsetof(struct extreme, of_2),
+    [4] = offsetof(struct extreme, of_4),
+    [8] = offsetof(struct extreme, of_8),
+};
+
+/* Puts so many extremes, from one on, as numbers of a type in memory; answers where they end. */
+static uint8 *put_extremes(uint8 *place, int32 type, int first, int count)
+{
+    int size = NEED(DFKNTsize(type));
+    for (int i = first; i < first + count; i++) {
+        memcpy(place, (const uint8 *)&extremes[i % COUNT(extremes)] + places_of_bits[size], size);
+        place += size;
+    }
+    return place;
+}
+
+/* ---- Attributes ---- */
+
+/* A call that sets an attribute. */
+typedef intn setter(int32 id, const char *name, int32 type, int32 count, const void *values);
+
+/* Sets an attribute of each type with the low byte first. */
+static void set_attributes(int32 id, setter *set)
+{
+    uint8 values[sizeof extremes];
+    for (int i = 0; i < COUNT(number_types); i++) {
+        put_extremes(values, number_types[i], i, COUNT(extremes));
+        NEED(set(id, type_names[i], number_types[i] | DFNT_LITEND, COUNT(extremes), values));
+    }
+}
 
 /* ---- Raw elements ---- */
 
@@ -268,6 +328,24 @@ static void sds_attributes(void)
     NEED(SDend(file));
 }
 
+/* Attributes of a file, a set and a dimension. The library keeps range and fill value as attributes too. */
+static void sds_little_endian_attributes(void)
+{
+    int32 file = sd_create("sds_little_endian_attributes.hdf");
+    int32 size = 3, low = -5, high = 5, fill = -1;
+    int32 set = NEED(SDcreate(file, "low byte first", DFNT_LINT32, 1, &size));
+    int32 dimension = NEED(SDgetdimid(set, 0));
+    set_attributes(file, SDsetattr);
+    set_attributes(set, SDsetattr);
+    NEED(SDsetrange(set, &high, &low));
+    NEED(SDsetfillvalue(set, &fill));
+    NEED(SDsetdimscale(dimension, size, DFNT_LINT16, bytes));
+    set_attributes(dimension, SDsetattr);
+    sd_write(set, size);
+    NEED(SDendaccess(set));
+    NEED(SDend(file));
+}
+
 static void sds_unwritten(void)
 {
     int32 file = sd_create("sds_unwritten.hdf");
@@ -363,6 +441,13 @@ int32 v_create(const char *name)
     return file;
 }
 
+int32 v_open(const char *name)
+{
+    int32 file = NEED(Hopen(name, DFACC_RDWR, 0));
+    NEED(Vstart(file));
+    return file;
+}
+
 void v_close(int32 file)
 {
     NEED(Vend(file));
@@ -377,16 +462,31 @@ static int32 vdata_create(int32 file, const char *name, const char *class)
     return vdata;
 }
 
-static void vdata_types(void)
+/* A Vdata of each type with these flags, of one field. */
+static void type_vdatas(int32 file, int32 flags)
 {
-    int32 file = v_create("vdata_types.hdf");
     for (int i = 0; i < COUNT(number_types); i++) {
         int32 vdata = vdata_create(file, type_names[i], "types");
-        NEED(VSfdefine(vdata, "value", number_types[i], 1));
+        NEED(VSfdefine(vdata, "value", number_types[i] | flags, 1));
         NEED(VSsetfields(vdata, "value"));
         NEED(VSwrite(vdata, bytes, 4, FULL_INTERLACE));
         NEED(VSdetach(vdata));
     }
+}
+
+static void vdata_types(void)
+{
+    int32 file = v_create("vdata_types.hdf");
+    type_vdatas(file, 0);
+    v_close(file);
+}
+
+/* Types in the order of the machine, without and with the flag for the low byte first. */
+static void vdata_native(void)
+{
+    int32 file = v_create("vdata_native.hdf");
+    type_vdatas(file, DFNT_NATIVE);
+    type_vdatas(file, DFNT_NATIVE | DFNT_LITEND);
     v_close(file);
 }
 
@@ -411,6 +511,85 @@ static void vdata_interlaces(void)
     v_close(file);
 }
 
+/* A Vdata with a field of each type, with the first of the flags and the second in turn. */
+struct shape {
+    const char *name;
+    int32 interlace, order, flags[2];
+};
+
+static int32 shaped_vdata(int32 file, const struct shape *shape)
+{
+    int32 vdata = vdata_create(file, shape->name, "extremes");
+    char fields[128] = "";
+    NEED(VSsetinterlace(vdata, shape->interlace));
+    for (int i = 0; i < COUNT(number_types); i++) {
+        NEED(VSfdefine(vdata, type_names[i], number_types[i] | shape->flags[i % 2], shape->order));
+        strcat(strcat(fields, i > 0 ? "," : ""), type_names[i]);
+    }
+    NEED(VSsetfields(vdata, fields));
+    return vdata;
+}
+
+/* Writes so many records, from an extreme on. Where they are as many as the extremes, each field gets each of these. */
+static void write_extremes(int32 vdata, const struct shape *shape, int first, int count)
+{
+    uint8 records[3 * COUNT(number_types) * sizeof extremes], *place = records;
+    for (int record = first; record < first + count; record++)
+        for (int i = 0; i < COUNT(number_types); i++)
+            place = put_extremes(place, number_types[i], record + i, shape->order);
+    NEED(VSwrite(vdata, records, count, FULL_INTERLACE));
+}
+
+static void vdata_little_endian(void)
+{
+    static const struct shape shapes[] = {
+        {"low by record", FULL_INTERLACE, 1, {DFNT_LITEND, DFNT_LITEND}},
+        {"low by field", NO_INTERLACE, 1, {DFNT_LITEND, DFNT_LITEND}},
+        {"low by record, threes", FULL_INTERLACE, 3, {DFNT_LITEND, DFNT_LITEND}},
+        {"low by field, threes", NO_INTERLACE, 3, {DFNT_LITEND, DFNT_LITEND}},
+        {"low and high by record", FULL_INTERLACE, 1, {DFNT_LITEND, 0}},
+        {"low and high by field", NO_INTERLACE, 1, {DFNT_LITEND, 0}},
+        {"high and low by record, threes", FULL_INTERLACE, 3, {0, DFNT_LITEND}},
+        {"high and low by field, threes", NO_INTERLACE, 3, {0, DFNT_LITEND}},
+    };
+    int32 file = v_create("vdata_little_endian.hdf");
+    type_vdatas(file, DFNT_LITEND);
+    for (int i = 0; i < COUNT(shapes); i++) {
+        int32 vdata = shaped_vdata(file, &shapes[i]);
+        write_extremes(vdata, &shapes[i], 0, COUNT(extremes));
+        NEED(VSdetach(vdata));
+    }
+    v_close(file);
+}
+
+/* Two Vdatas made without records, which are written when the file is opened again. The second one grows at the end of the
+ * file and stays plain, then the first one grows in linked blocks, and last some records of the second are written anew. */
+static void vdata_little_endian_grown(void)
+{
+    static const struct shape shapes[] = {{"in blocks", FULL_INTERLACE, 1, {DFNT_LITEND, DFNT_LITEND}},
+                                          {"plain", FULL_INTERLACE, 1, {DFNT_LITEND, 0}}};
+    static const struct {
+        int vdata, record, count;
+    } parts[] = {{0, 0, 5}, {1, 0, 5}, {1, 4, 9}, {0, 5, 9}, {1, 2, 3}};
+    int32 refs[COUNT(shapes)];
+    int32 file = v_create("vdata_little_endian_grown.hdf");
+    for (int i = 0; i < COUNT(shapes); i++) {
+        int32 vdata = shaped_vdata(file, &shapes[i]);
+        refs[i] = NEED(VSQueryref(vdata));
+        NEED(VSdetach(vdata));
+    }
+    v_close(file);
+    for (int i = 0; i < COUNT(parts); i++) {
+        file = v_open("vdata_little_endian_grown.hdf");
+        int32 vdata = NEED(VSattach(file, refs[parts[i].vdata], "w"));
+        NEED(VSsetblocksize(vdata, 64));
+        NEED(VSseek(vdata, parts[i].record));
+        write_extremes(vdata, &shapes[parts[i].vdata], parts[i].record + i, parts[i].count);
+        NEED(VSdetach(vdata));
+        v_close(file);
+    }
+}
+
 static void vdata_fields(void)
 {
     int32 file = v_create("vdata_fields.hdf");
@@ -431,6 +610,26 @@ static void vdata_attributes(void)
     int32 vdata = road_vdata(file, "noted", FULL_INTERLACE, DFNT_UINT32);
     NEED(VSsetattr(vdata, _HDF_VDATA, "source", DFNT_CHAR8, 6, "survey"));
     NEED(VSsetattr(vdata, 1, "offsets", DFNT_INT32, 2, numbers));
+    NEED(VSdetach(vdata));
+    v_close(file);
+}
+
+static intn set_own(int32 vdata, const char *name, int32 type, int32 count, const void *values)
+{
+    return VSsetattr(vdata, _HDF_VDATA, name, type, count, values);
+}
+
+static intn set_of_field(int32 vdata, const char *name, int32 type, int32 count, const void *values)
+{
+    return VSsetattr(vdata, 1, name, type, count, values);
+}
+
+static void vdata_little_endian_attributes(void)
+{
+    int32 file = v_create("vdata_little_endian_attributes.hdf");
+    int32 vdata = road_vdata(file, "noted", FULL_INTERLACE, DFNT_LUINT32);
+    set_attributes(vdata, set_own);
+    set_attributes(vdata, set_of_field);
     NEED(VSdetach(vdata));
     v_close(file);
 }
@@ -516,6 +715,15 @@ static void vgroup_attributes(void)
     v_close(file);
 }
 
+static void vgroup_little_endian_attributes(void)
+{
+    int32 file = v_create("vgroup_little_endian_attributes.hdf");
+    int32 group = group_create(file, "noted");
+    set_attributes(group, Vsetattr);
+    NEED(Vdetach(group));
+    v_close(file);
+}
+
 /* ---- Images, palettes and annotations ---- */
 
 static void gr_image(int32 gr, const char *name, int32 components, int32 interlace, int32 x, int32 y)
@@ -547,6 +755,20 @@ static void gr_24_bit(void)
     gr_image(gr, "by pixel", 3, MFGR_INTERLACE_PIXEL, 6, 5);
     gr_image(gr, "by line", 3, MFGR_INTERLACE_LINE, 6, 5);
     gr_image(gr, "by plane", 3, MFGR_INTERLACE_COMPONENT, 6, 5);
+    NEED(GRend(gr));
+    NEED(Hclose(file));
+}
+
+static void gr_little_endian_attributes(void)
+{
+    int32 file = create("gr_little_endian_attributes.hdf", 0);
+    int32 gr = NEED(GRstart(file));
+    int32 sizes[] = {6, 5}, start[] = {0, 0};
+    int32 image = NEED(GRcreate(gr, "noted", 1, DFNT_UINT8, MFGR_INTERLACE_PIXEL, sizes));
+    NEED(GRwriteimage(image, start, NULL, sizes, bytes));
+    set_attributes(image, GRsetattr);
+    set_attributes(gr, GRsetattr);
+    NEED(GRendaccess(image));
     NEED(GRend(gr));
     NEED(Hclose(file));
 }
@@ -643,8 +865,7 @@ static void mixed(void)
     sd_write(set, size);
     NEED(SDendaccess(set));
     NEED(SDend(sd));
-    int32 file = NEED(Hopen("mixed.hdf", DFACC_RDWR, 0));
-    NEED(Vstart(file));
+    int32 file = v_open("mixed.hdf");
     NEED(VSdetach(road_vdata(file, "roads", FULL_INTERLACE, DFNT_UINT32)));
     put(file, 1700, 1, 11);
     put(file, 1700, 2, 11);
@@ -676,6 +897,7 @@ int main(int count, char **arguments)
     sds_little_endian();
     sds_ranks();
     sds_attributes();
+    sds_little_endian_attributes();
     sds_unwritten();
     sds_compressed("sds_deflate.hdf", COMP_CODE_DEFLATE, 6);
     sds_compressed("sds_rle.hdf", COMP_CODE_RLE, 0);
@@ -686,16 +908,22 @@ int main(int count, char **arguments)
     sds_external();
     dfsd();
     vdata_types();
+    vdata_native();
     vdata_interlaces();
+    vdata_little_endian();
+    vdata_little_endian_grown();
     vdata_fields();
     vdata_attributes();
+    vdata_little_endian_attributes();
     vdata_empty();
     vdata_set_aside();
     vgroups();
     vgroups_deep();
     vgroup_attributes();
+    vgroup_little_endian_attributes();
     gr_8_bit();
     gr_24_bit();
+    gr_little_endian_attributes();
     gr_compressed();
     raster_8();
     raster_24();

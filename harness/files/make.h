@@ -23,8 +23,9 @@ void put(int32 file, uint16 tag, uint16 ref, int32 length);
 /* Makes a file of scientific data sets. */
 int32 sd_create(const char *name);
 
-/* Makes a file for Vdatas and Vgroups, and closes one. */
+/* Makes a file for Vdatas and Vgroups, opens one again, and closes one. */
 int32 v_create(const char *name);
+int32 v_open(const char *name);
 void v_close(int32 file);
 
 /* Makes a Vdata of seven records with the fields row, col and road. */

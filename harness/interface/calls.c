@@ -13,7 +13,8 @@ enum { BEHIND = 0xee };
 static uint8_t file[FILE_LENGTH];
 static uint8_t small[SMALL_LENGTH];
 static uint8_t linked[LINKED_LENGTH];
-static uint8_t out[100];
+static uint8_t low[LITTLE_ENDIAN_LENGTH];
+static uint8_t out[200];
 
 /* A lent output before a call. */
 static void fill(void)
@@ -277,6 +278,84 @@ static void vdatas(void)
     need(hdf4_read_value(file, 398, 4, 1, 3, 0).number == HDF4_NO_VALUE, "hdf4_read_value of no field");
 }
 
+/* Four numbers of each field of the Vdata whose numbers stand low byte first: type, size, offset and order. */
+static const uint16_t low_fields[10][4] = {
+    {16387, 1, 0, 1},  {16388, 1, 1, 1},  {16389, 8, 2, 2},  {16390, 16, 10, 2}, {16404, 1, 26, 1},
+    {16405, 1, 27, 1}, {16406, 2, 28, 1}, {16407, 2, 30, 1}, {16408, 4, 32, 1},  {16409, 4, 36, 1},
+};
+
+static void little_endian_heads(void)
+{
+    static const uint16_t lengths[10] = {0};
+    static const uint8_t none[1] = {0};
+    uint16_t fields[40];
+    uint32_t names[20];
+    hdf4_field table[10];
+
+    hdf4_vdata_answer v = hdf4_read_vdata(low, 199, 6, fields, 40, names, 20);
+    need(v.number == 0 && v.fields == 10 && v.records == 1 && v.record_size == 40, "hdf4_read_vdata, low byte first");
+    need(memcmp(fields, low_fields, sizeof fields) == 0, "the types of hdf4_read_vdata, as they are stored");
+    v = hdf4_read_fields(low, 199, 6, table, 10);
+    need(v.number == 0 && v.fields == 10 && v.records == 1 && v.record_size == 40, "hdf4_read_fields, low byte first");
+    for (int i = 0; i < 10; i++) {
+        const uint16_t numbers[4] = {table[i].type, table[i].size, table[i].offset, table[i].order};
+        need(memcmp(numbers, low_fields[i], sizeof numbers) == 0, "the types of hdf4_read_fields, as they are stored");
+    }
+    fill();
+    hdf4_pack_answer p = hdf4_pack_vdata(0, 1, 40, fields, 40, lengths, 10, none, 0, (const uint8_t *)"low", 3, none, 0, 0, 0, 3, 0,
+                                         out, 126);
+    need(p.number == 0 && p.length == 125 && holds(little_endian_head, 125), "hdf4_pack_vdata, low byte first");
+}
+
+static void little_endian_values(void)
+{
+    static const struct { uint64_t field, component, kind, bits; } known[12] = {
+        {0, 0, HDF4_UNSIGNED, 0xe9},
+        {1, 0, HDF4_UNSIGNED, 'n'},
+        {2, 0, HDF4_FLOAT32, 0x3fc00000},
+        {2, 1, HDF4_FLOAT32, 0x7f800001},
+        {3, 0, HDF4_FLOAT64, 0xc004000000000000},
+        {3, 1, HDF4_FLOAT64, 0xfff0123456789abc},
+        {4, 0, HDF4_SIGNED, 0xffffffffffffff80},
+        {5, 0, HDF4_UNSIGNED, 0x80},
+        {6, 0, HDF4_SIGNED, 0xfffffffffffffffe},
+        {7, 0, HDF4_UNSIGNED, 0xfffe},
+        {8, 0, HDF4_SIGNED, 0xffffffff80000001},
+        {9, 0, HDF4_UNSIGNED, 0x80000001},
+    };
+    for (int i = 0; i < 12; i++) {
+        hdf4_value_answer x = hdf4_read_value(low, 199, 6, 0, known[i].field, known[i].component);
+        need(x.number == 0 && x.place == 0, "hdf4_read_value, low byte first");
+        need(x.kind == known[i].kind && x.bits == known[i].bits, "a value that stands low byte first");
+    }
+}
+
+/* A type that is not known, also less 16384, in place of 16408. */
+static void unknown_types(void)
+{
+    static const uint16_t codes[4] = {7, 16384, 16391, 32792};
+    static const uint16_t lengths[1] = {0};
+    static const uint8_t none[1] = {0};
+    uint16_t fields[40];
+    uint32_t names[20];
+    hdf4_field table[10];
+
+    for (int i = 0; i < 4; i++) {
+        put_16(low + 60, codes[i]);
+        hdf4_vdata_answer v = hdf4_read_vdata(low, 199, 6, fields, 40, names, 20);
+        need(v.number == HDF4_TYPE && v.place == 10 && v.fields == 0, "hdf4_read_vdata of an unknown type");
+        v = hdf4_read_fields(low, 199, 6, table, 10);
+        need(v.number == HDF4_TYPE && v.place == 10 && v.fields == 0, "hdf4_read_fields of an unknown type");
+        hdf4_value_answer x = hdf4_read_value(low, 199, 6, 0, 0, 0);
+        need(x.number == HDF4_TYPE && x.place == 10 && x.kind == 0 && x.bits == 0, "hdf4_read_value of an unknown type");
+
+        const uint16_t numbers[4] = {codes[i], 4, 0, 1};
+        fill();
+        hdf4_pack_answer p = hdf4_pack_vdata(0, 1, 4, numbers, 4, lengths, 1, none, 0, none, 0, none, 0, 0, 0, 3, 0, out, 200);
+        need(p.number == HDF4_TYPE && p.place == 0 && p.length == 0 && holds("", 0), "hdf4_pack_vdata of an unknown type");
+    }
+}
+
 static void names(void)
 {
 #define REFUSAL(name, value) need(strcmp(hdf4_refusal_name(value), #name) == 0, "hdf4_refusal_name of " #name);
@@ -290,7 +369,7 @@ static void names(void)
          "hdf4_refusal_text of NO_BLOCK");
     for (uint64_t number = 0; number < 100; number++)
         need(hdf4_refusal_text(number)[0] != 0, "hdf4_refusal_text of every number");
-    need(strcmp(HDF4_VERSION, "0.2.2") == 0, "HDF4_VERSION");
+    need(strcmp(HDF4_VERSION, "0.2.3") == 0, "HDF4_VERSION");
 }
 
 int main(void)
@@ -298,6 +377,7 @@ int main(void)
     make_file(file);
     make_small(small);
     make_linked(linked);
+    make_little_endian(low);
     open_and_find();
     view_and_choose();
     size();
@@ -308,6 +388,9 @@ int main(void)
     records();
     groups();
     vdatas();
+    little_endian_heads();
+    little_endian_values();
+    unknown_types();
     names();
     printf("all calls answer what is written down\n");
     return 0;

@@ -32,6 +32,33 @@ const uint8_t head[66] = {
     0, 31, 0, 32, 0, 3, 0, 33,
 };
 
+/* By record, 1 record of 40 bytes; ten fields without names, each of another type with 16384 added, floats two at a time; named "low". */
+const uint8_t little_endian_head[125] = {
+    0, 0, 0, 0, 0, 1, 0, 40, 0, 10,                                             /* interlace, records, size of a record, fields */
+    64, 3, 64, 4, 64, 5, 64, 6, 64, 20, 64, 21, 64, 22, 64, 23, 64, 24, 64, 25, /* types */
+    0, 1, 0, 1, 0, 8, 0, 16, 0, 1, 0, 1, 0, 2, 0, 2, 0, 4, 0, 4,                /* sizes */
+    0, 0, 0, 1, 0, 2, 0, 10, 0, 26, 0, 27, 0, 28, 0, 30, 0, 32, 0, 36,          /* offsets */
+    0, 1, 0, 1, 0, 2, 0, 2, 0, 1, 0, 1, 0, 1, 0, 1, 0, 1, 0, 1,                 /* orders */
+    0, 0, 0, 0, 0, 0, 0, 0, 0, 0, 0, 0, 0, 0, 0, 0, 0, 0, 0, 0,                 /* names of fields */
+    0, 3, 'l', 'o', 'w', 0, 0, 0, 0, 0, 0, 0, 3, 0, 0,
+};
+
+/* Its record. */
+static const uint8_t little_endian_record[40] = {
+    0xe9,                                           /* a character, e9 */
+    'n',                                            /* another */
+    0, 0, 0xc0, 0x3f,                               /* 1.5 */
+    1, 0, 0x80, 0x7f,                               /* the NaN 7f800001 */
+    0, 0, 0, 0, 0, 0, 4, 0xc0,                      /* -2.5 */
+    0xbc, 0x9a, 0x78, 0x56, 0x34, 0x12, 0xf0, 0xff, /* the NaN fff0123456789abc */
+    0x80,                                           /* -128 */
+    0x80,                                           /* 128 */
+    0xfe, 0xff,                                     /* -2 */
+    0xfe, 0xff,                                     /* 65534 */
+    1, 0, 0, 0x80,                                  /* -2147483647 */
+    1, 0, 0, 0x80,                                  /* 2147483649 */
+};
+
 /* Of an element in linked blocks: no next table, blocks 7 and 8; and kind 1, 5 bytes, 3 in the first block and 2 in another, 2 blocks
  * in a table, table 6. */
 static const uint8_t table[6] = {0, 0, 0, 7, 0, 8};
@@ -86,4 +113,14 @@ void make_linked(uint8_t *file)
     put(file, 46, table, sizeof table);
     memcpy(file + 52, "hub", 3);
     put(file, 55, linked, sizeof linked);
+}
+
+void make_little_endian(uint8_t *file)
+{
+    put_32(file, 0x0e031301);
+    put_block(file + 4, 2, 0);
+    put_slot(file + 10, 1962, 6, 34, 125);
+    put_slot(file + 22, 1963, 6, 159, 40);
+    put(file, 34, little_endian_head, sizeof little_endian_head);
+    put(file, 159, little_endian_record, sizeof little_endian_record);
 }

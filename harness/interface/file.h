@@ -33,6 +33,13 @@ enum { SMALL_LENGTH = 37 };
  */
 enum { LINKED_LENGTH = 77 };
 
+/* A file of a Vdata of every type with 16384 added, one record of ten fields:
+ *
+ *     slot 10     1962/6      its head, 125 bytes at 34
+ *     slot 22     1963/6      its data, 40 bytes at 159
+ */
+enum { LITTLE_ENDIAN_LENGTH = 199 };
+
 /* The slots as they are listed, and the records as they stand in the file. */
 extern const uint32_t file_slots[9][4];
 extern const uint8_t number_type[4];
@@ -40,10 +47,12 @@ extern const uint8_t dimension[20];
 extern const uint8_t array[22];
 extern const uint8_t group[33];
 extern const uint8_t head[66];
+extern const uint8_t little_endian_head[125];
 
 /* Write the files. */
 void make_file(uint8_t *file);
 void make_small(uint8_t *file);
 void make_linked(uint8_t *file);
+void make_little_endian(uint8_t *file);
 
 #endif

@@ -7,7 +7,7 @@ pub use faults::{spoil, spoil_fields};
 use crate::packing::{Record, MOST};
 use crate::random::Random;
 use crate::records::{Array, Dimension, NumberType, ARRAY, DIMENSIONS, NUMBER_TYPE};
-use crate::vset::{Field, Group, Tail, Vdata, FIELD, GROUP, HEAD, MOST_FIELDS, TYPES, VERSION};
+use crate::vset::{size_of, Field, Group, Tail, Vdata, CODES, FIELD, GROUP, HEAD, MOST_FIELDS, VERSION};
 
 /// One record in so many has a rank, a name or as many members as 16 bits can count.
 const GREATEST_EVERY: usize = 800;
@@ -92,7 +92,7 @@ fn name(random: &mut Random) -> Vec<u8> {
     random.bytes(length)
 }
 
-/// A head with few fields and records; seldom with as many fields as a head can have.
+/// A head with few fields and records, its types of either byte order; seldom with as many fields as a head can have.
 pub fn vdata(random: &mut Random) -> Vdata {
     let count = match random.below(150) {
         0 => MOST_FIELDS - random.below(2),
@@ -109,7 +109,8 @@ pub fn vdata(random: &mut Random) -> Vdata {
         tail: tail(random),
     };
     for _ in 0..count {
-        let (number_type, size) = random.pick(&TYPES);
+        let number_type = random.pick(&CODES);
+        let size = size_of(number_type).expect("a known type");
         let order = order(random, (u16::MAX - vdata.record_size) / size);
         if order > 0 {
             vdata.add(number_type, order * size, order);

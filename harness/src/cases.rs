@@ -4,6 +4,7 @@
 pub mod chains;
 pub mod changes;
 pub mod edits;
+pub mod numbers;
 pub mod pieces;
 pub mod records;
 pub mod refusals;

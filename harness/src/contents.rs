@@ -7,8 +7,10 @@ mod records;
 
 use crate::files;
 use crate::reader::base_tag;
+use crate::vset::size_of;
 use hdf4_sys::{self as library, Answer};
 use recorded::Contents;
+use std::collections::BTreeMap;
 use std::fmt::{self, Debug};
 
 /// How much was compared.
@@ -21,8 +23,10 @@ pub struct Counts {
     unstored: usize,
     groups: usize,
     vdatas: usize,
-    values: usize,
-    refused: usize,
+    /// By the code of their type.
+    values: BTreeMap<u16, usize>,
+    other_version: usize,
+    other_type: usize,
 }
 
 type Outcome = Result<(), String>;
@@ -53,7 +57,7 @@ fn compare_file(image: &[u8], contents: &Contents, counts: &mut Counts) -> Outco
 }
 
 impl Counts {
-    fn titled(&self) -> [(usize, &'static str); 9] {
+    fn titled(&self) -> [(usize, &'static str); 11] {
         [
             (self.files, "files"),
             (self.plain, "plain elements"),
@@ -62,17 +66,26 @@ impl Counts {
             (self.unstored, "elements not stored"),
             (self.groups, "groups"),
             (self.vdatas, "Vdatas"),
-            (self.values, "values"),
-            (self.refused, "groups and Vdatas of a version or type that is refused"),
+            (self.values.values().sum(), "values"),
+            (self.values.len(), "types of values"),
+            (self.other_version, "groups and Vdatas of a version that is refused"),
+            (self.other_type, "Vdatas of a type that is refused"),
         ]
     }
 
-    /// The counts, if none of them is 0.
+    /// The counts, if none of them is 0, nor that of the values of a type.
     fn complete(self) -> Result<Counts, String> {
-        match self.titled().into_iter().find(|(count, _)| *count == 0) {
-            Some((_, title)) => Err(format!("no {title} compared with what libhdf4 reads")),
+        let none = self.titled().into_iter().find(|(count, _)| *count == 0).map(|(_, title)| title.into());
+        match none.or(self.type_without_values()) {
+            Some(title) => Err(format!("no {title} compared with what libhdf4 reads")),
             None => Ok(self),
         }
+    }
+
+    /// A type that is known, and of which there is no value.
+    fn type_without_values(&self) -> Option<String> {
+        let mut known = (0..=u16::MAX).filter(|code| size_of(*code).is_some());
+        known.find(|code| !self.values.contains_key(code)).map(|code| format!("values of type {code}"))
     }
 }
 

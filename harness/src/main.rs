@@ -49,6 +49,7 @@ const DEFAULT_SEQUENCES: u64 = 30_000;
 const _: () = assert!(hdf4_sys::MOST_BYTES as u64 == reader::MOST_BYTES);
 const _: () = assert!(hdf4_sys::MOST_ELEMENTS as u64 == reader::MOST_SLOTS);
 const _: () = assert!(hdf4_sys::MOST_FIELDS == vset::MOST_FIELDS && hdf4_sys::MOST_PAIRS == vset::MOST_PAIRS);
+const _: () = assert!(hdf4_sys::LITTLE_ENDIAN == vset::LOW_FIRST as usize);
 
 /// Compares what a seed and an index make.
 type Generated = fn(u64, u64, &mut Tally) -> Result<(), String>;
@@ -152,6 +153,7 @@ fn run_all(options: &Options, random: &mut Random, tally: &mut Tally) -> Result<
     println!("{} cases of replacing, removing and empty data", cases::changes::check(tally)?);
     println!("{} files of blocks in every order", cases::chains::check_all(random)?);
     println!("{} records with known numbers", cases::records::check(random, tally)?);
+    println!("{} values with known bits, in both byte orders", cases::numbers::check(random)?);
     let [refusals, listed] = cases::refusals::check()?;
     println!("{refusals} named cases of refusals, for {listed} rules alone or two at once");
 

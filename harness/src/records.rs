@@ -45,6 +45,7 @@ pub enum Cause {
     NamesLength,
     Order,
     Type,
+    LowFirstType,
     Size,
     Offset,
     RecordSize,

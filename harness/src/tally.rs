@@ -4,7 +4,7 @@ use crate::editor::{Reason, BAD_TRAILER, NO_EDIT, NO_ROOM, PRESENT};
 use crate::reader::{ABSENT, NOT_STORED, SMALL, TWICE};
 use crate::records::{Cause, DEEP, NO_VALUE, RECORD, TYPE};
 use crate::storage::{Layout, Way, CHAIN, NO_BLOCK, NO_TABLE, SHORT_BLOCK, SHORT_TABLE, STORAGE, TABLE_LOOP};
-use crate::vset::TYPES;
+use crate::vset::{type_of, Sort, Value, Vdata, CODES};
 use std::{fmt, slice};
 
 /// The calls of the library. A further call gets a further case here, in `CALLS` and in `can_answer`.
@@ -160,7 +160,7 @@ const WAYS: [(Way, &str); 47] = [
 const WITH_INDEX: [u64; 5] = [NO_TABLE, SHORT_TABLE, NO_BLOCK, SHORT_BLOCK, TABLE_LOOP];
 
 /// The causes of an answer of a call on records, with their names in the table.
-const CAUSES: [(Cause, &str); 46] = [
+const CAUSES: [(Cause, &str); 47] = [
     (Cause::Whole, "0 whole"),
     (Cause::BytesBehind, "0 bytes behind"),
     (Cause::ByRecord, "0 by record"),
@@ -188,6 +188,7 @@ const CAUSES: [(Cause, &str); 46] = [
     (Cause::NamesLength, "15 field names"),
     (Cause::Order, "15 order 0"),
     (Cause::Type, "16 type"),
+    (Cause::LowFirstType, "16 type, low first"),
     (Cause::Size, "15 size"),
     (Cause::Offset, "15 offset"),
     (Cause::RecordSize, "15 record size"),
@@ -209,6 +210,26 @@ const CAUSES: [(Cause, &str); 46] = [
     (Cause::SecondRoom, "14 second room"),
 ];
 
+/// How a type is met: in a head that a call granted, and as a value, by the way to it and by its sort.
+#[derive(Clone, Copy, PartialEq, Eq)]
+enum Meeting {
+    InHead(Call),
+    Read(Cause),
+    Value(Sort),
+}
+
+/// The meetings with a type, with their names in the table.
+const MEETINGS: [(Meeting, &str); 8] = [
+    (Meeting::InHead(Call::ReadVdata), "read vdata"),
+    (Meeting::InHead(Call::ReadFields), "fields"),
+    (Meeting::InHead(Call::PackVdata), "pack vdata"),
+    (Meeting::Read(Cause::ByRecord), "by record"),
+    (Meeting::Read(Cause::ByField), "by field"),
+    (Meeting::Value(Sort::Negative), "negative"),
+    (Meeting::Value(Sort::NotANumber), "NaN"),
+    (Meeting::Value(Sort::Other), "other"),
+];
+
 #[derive(Default)]
 pub struct Tally {
     pub files: u64,
@@ -223,8 +244,8 @@ pub struct Tally {
     /// Copies refused at the first table or block, and at a later one.
     indices: [[u64; 2]; WITH_INDEX.len()],
     caused: Counts<{ CALLS.len() }, { CAUSES.len() }>,
-    /// Values read of each type, by record and by field.
-    values: [[u64; 2]; TYPES.len()],
+    /// How often each type was met.
+    types: [[u64; MEETINGS.len()]; CODES.len()],
 }
 
 /// A table of counts, zeros at first. The rows may be longer than those that have a default of their own.
@@ -335,7 +356,7 @@ impl Call {
             Cause::Interlace => heads.contains(&self) || interlaced.contains(&self),
             Cause::Version => heads.contains(&self) || groups.contains(&self),
             Cause::FieldEntries | Cause::NamesLength => self == Call::PackVdata,
-            Cause::FieldCount | Cause::Order | Cause::Type => heads.contains(&self),
+            Cause::FieldCount | Cause::Order | Cause::Type | Cause::LowFirstType => heads.contains(&self),
             Cause::Size | Cause::Offset | Cause::RecordSize => heads.contains(&self),
             Cause::FirstRoom => self.packs() || tabled.contains(&self),
             Cause::SecondRoom => self == Call::ReadArray || self == Call::ReadVdata,
@@ -369,6 +390,14 @@ fn can_go((call, layout, _): Read, way: Way) -> bool {
         }
         Way::BlockZero => layout == Some(Layout::Full) && call == Call::Copy,
         _ => layout.is_some() && call == Call::Copy,
+    }
+}
+
+/// Whether the type with a code can be met so.
+fn can_meet(code: u16, meeting: Meeting) -> bool {
+    match meeting {
+        Meeting::Value(sort) => type_of(code).is_some_and(|known| known.has(sort)),
+        _ => true,
     }
 }
 
@@ -411,11 +440,21 @@ impl Tally {
         self.caused.0[call as usize][cause as usize] += 1;
     }
 
-    /// A value of a type, read by record or by field.
-    pub fn count_value(&mut self, number_type: u16, cause: Cause) {
-        if let Some(index) = TYPES.iter().position(|(known, _)| *known == number_type) {
-            self.values[index][usize::from(cause == Cause::ByField)] += 1;
-        }
+    /// The types in a head that a call granted.
+    pub fn count_types(&mut self, call: Call, head: &Vdata) {
+        head.field_list().for_each(|field| self.count_meeting(field.number_type, Meeting::InHead(call)));
+    }
+
+    /// A value that was read, and the way to it.
+    pub fn count_value(&mut self, value: &Value, cause: Cause) {
+        self.count_meeting(value.number_type, Meeting::Read(cause));
+        self.count_meeting(value.number_type, Meeting::Value(value.sort()));
+    }
+
+    fn count_meeting(&mut self, code: u16, meeting: Meeting) {
+        let row = CODES.iter().position(|known| *known == code);
+        let column = MEETINGS.iter().position(|(known, _)| *known == meeting);
+        self.types[row.expect("a known type")][column.expect("a known meeting")] += 1;
     }
 
     /// What was counted elsewhere too.
@@ -429,7 +468,7 @@ impl Tally {
         add_each(&mut self.gone.0, &other.gone.0);
         add_each(&mut self.indices, &other.indices);
         add_each(&mut self.caused.0, &other.caused.0);
-        add_each(&mut self.values, &other.values);
+        add_each(&mut self.types, &other.types);
     }
 
     pub fn calls(&self) -> u64 {
@@ -450,13 +489,14 @@ impl Tally {
         let indices = self.index_counts().filter(|(_, counts)| counts.contains(&Some(0)));
         let indices =
             indices.map(|(number, _)| name(Call::Copy, &format!("{number} at the first or at a later index")));
-        let values = TYPES.iter().zip(&self.values).filter(|(_, counts)| counts.contains(&0));
-        let values = values.map(|((number_type, _), _)| name(Call::ReadValue, &format!("type {number_type}")));
+        let types = self.meetings().flat_map(|(code, counts)| counts.map(move |(title, count)| (code, title, count)));
+        let types = types.filter(|(.., count)| *count == Some(0));
+        let types = types.map(|(code, title, _)| format!("type {code}: {title}"));
         let unstored = WITH_UNSTORED.into_iter().zip(&self.unstored).filter(|(_, count)| **count == 0);
         let unstored = unstored.map(|(call, _)| name(call, "an element that is not stored yet"));
         let starts = (self.undone_starts == 0).then(|| name(Call::Undo, "an edit before the sequence"));
         let reasons = reasons.map(|((_, title), call)| name(call, title));
-        let of_reading = ways.chain(indices).chain(causes).chain(values);
+        let of_reading = ways.chain(indices).chain(causes).chain(types);
         numbers.chain(reasons).chain(of_reading).chain(unstored).chain(starts).collect()
     }
 
@@ -484,6 +524,16 @@ impl Tally {
     /// How often a call came to an answer by a cause, where it can.
     fn cause(&self, call: Call, cause: Cause) -> Option<u64> {
         call.can_come(cause).then(|| self.caused.0[call as usize][cause as usize])
+    }
+
+    /// The code of each type, and how often it was met, where it can be.
+    fn meetings(&self) -> impl Iterator<Item = (u16, impl Iterator<Item = (&'static str, Option<u64>)> + '_)> {
+        CODES.into_iter().zip(&self.types).map(|(code, counts)| {
+            let count = move |((meeting, title), count): ((Meeting, &'static str), &u64)| {
+                (title, can_meet(code, meeting).then_some(*count))
+            };
+            (code, MEETINGS.into_iter().zip(counts).map(count))
+        })
     }
 
     /// How often a rule refused a call, where it can.
@@ -525,9 +575,9 @@ impl fmt::Display for Tally {
         for (cause, title) in CAUSES {
             row(out, title, on_records.iter().map(|call| self.cause(*call, cause)))?;
         }
-        head(out, "values of type", ["by record", "by field"].into_iter())?;
-        for ((number_type, _), counts) in TYPES.iter().zip(&self.values) {
-            row(out, &number_type.to_string(), counts.iter().copied().map(Some))?;
+        head(out, "type", MEETINGS.iter().map(|(_, title)| *title))?;
+        for (code, counts) in self.meetings() {
+            row(out, &code.to_string(), counts.map(|(_, count)| count))?;
         }
         head(out, "rule", EDITS.iter().map(|call| call.title()))?;
         for (reason, title) in REASONS {

@@ -19,9 +19,39 @@ pub const MOST_PAIRS: usize = 4096;
 /// How many numbers of 16 bits describe a field: type, size, offset and order.
 pub const FIELD: usize = 4;
 
-/// The types of numbers with their sizes.
-pub const TYPES: [(u16, u16); 10] =
-    [(3, 1), (4, 1), (20, 1), (21, 1), (22, 2), (23, 2), (24, 4), (25, 4), (5, 4), (6, 8)];
+/// The kinds of values: signed and unsigned numbers, floats of 32 and of 64 bits.
+const SIGNED: u64 = 1;
+const UNSIGNED: u64 = 2;
+const FLOAT32: u64 = 3;
+const FLOAT64: u64 = 4;
+
+/// The types of numbers by their codes, with their sizes and the kinds of their values.
+const TYPES: [(u16, u16, u64); 10] = [
+    (3, 1, UNSIGNED),
+    (4, 1, UNSIGNED),
+    (20, 1, SIGNED),
+    (21, 1, UNSIGNED),
+    (22, 2, SIGNED),
+    (23, 2, UNSIGNED),
+    (24, 4, SIGNED),
+    (25, 4, UNSIGNED),
+    (5, 4, FLOAT32),
+    (6, 8, FLOAT64),
+];
+
+/// What is added to a code where the low byte of a number stands first.
+pub const LOW_FIRST: u16 = 16384;
+
+/// The codes of all types, each in both byte orders.
+pub const CODES: [u16; 2 * TYPES.len()] = {
+    let mut codes = [0; 2 * TYPES.len()];
+    let mut index = 0;
+    while index < codes.len() {
+        codes[index] = TYPES[index / 2].0 + (index as u16 % 2) * LOW_FIRST;
+        index += 1;
+    }
+    codes
+};
 
 /// What Vgroups and Vdata heads end with.
 #[derive(Clone, Debug, PartialEq, Eq)]
@@ -53,7 +83,15 @@ pub struct Vdata {
     pub tail: Tail,
 }
 
-/// A value: 1 for a signed number, 2 for an unsigned one, 3 or 4 for a float of 32 or 64 bits; its bits, and its type.
+/// What the code of a type says: how many bytes a number has, of which kind it is, and which byte stands first.
+#[derive(Clone, Copy)]
+pub struct Type {
+    pub size: u16,
+    pub is_low_first: bool,
+    kind: u64,
+}
+
+/// A value: its kind, its bits, and the code of its type.
 #[derive(Clone, Copy, Debug, PartialEq, Eq)]
 pub struct Value {
     pub kind: u64,
@@ -61,8 +99,26 @@ pub struct Value {
     pub number_type: u16,
 }
 
-pub fn size_of(number_type: u16) -> Option<u16> {
-    TYPES.iter().find(|(known, _)| *known == number_type).map(|(_, size)| *size)
+/// What sort of number a value is.
+#[derive(Clone, Copy, Debug, PartialEq, Eq)]
+pub enum Sort {
+    Negative,
+    NotANumber,
+    Other,
+}
+
+/// The type with a code, if it is known once 16384 is taken off.
+pub fn type_of(code: u16) -> Option<Type> {
+    let (is_low_first, base) = match code.checked_sub(LOW_FIRST) {
+        Some(base) => (true, base),
+        None => (false, code),
+    };
+    let (_, size, kind) = TYPES.into_iter().find(|(known, ..)| *known == base)?;
+    Some(Type { size, is_low_first, kind })
+}
+
+pub fn size_of(code: u16) -> Option<u16> {
+    type_of(code).map(|known| known.size)
 }
 
 // Vgroups.
@@ -203,9 +259,7 @@ impl Vdata {
         if self.field_list().any(|field| field.order == 0) {
             return Err((RECORD, Cause::Order));
         }
-        if self.field_list().any(|field| size_of(field.number_type).is_none()) {
-            return Err((TYPE, Cause::Type));
-        }
+        self.field_list().try_for_each(|field| judge_type(field.number_type))?;
         self.judge_sizes()
     }
 
@@ -229,6 +283,14 @@ impl Vdata {
     }
 }
 
+fn judge_type(code: u16) -> Result<(), Breach> {
+    match type_of(code) {
+        Some(_) => Ok(()),
+        None if code < LOW_FIRST => Err((TYPE, Cause::Type)),
+        None => Err((TYPE, Cause::LowFirstType)),
+    }
+}
+
 // Vdata values.
 
 /// The value with the indices of record, field and component.
@@ -241,14 +303,15 @@ pub fn read_value(image: &[u8], opening: &Opening, reference: u16, indices: [u64
     if (data.bytes.len() as u64) < records * record_size {
         return data.refuse((RECORD, Cause::DataShort));
     }
-    let size = u64::from(size_of(field.number_type).expect("a type that was judged"));
+    let known = type_of(field.number_type).expect("a type that was judged");
+    let size = u64::from(known.size);
     let (whole, cause) = match head.interlace {
         0 => (record * record_size + u64::from(field.offset), Cause::ByRecord),
         _ => (records * u64::from(field.offset) + record * u64::from(field.size), Cause::ByField),
     };
     let start = (whole + component * size) as usize;
-    let (kind, bits) = kind_and_bits(field.number_type, &data.bytes[start..start + size as usize]);
-    Ok((Value { kind, bits, number_type: field.number_type }, cause))
+    let bits = known.bits(&data.bytes[start..start + size as usize]);
+    Ok((Value { kind: known.kind, bits, number_type: field.number_type }, cause))
 }
 
 /// The field that the indices name, each of them small enough.
@@ -274,15 +337,44 @@ fn of_data(refused: Refused) -> Refused {
     Refused { cause, ..refused }
 }
 
-/// Kind and bits of the number in so many bytes as its type has.
-fn kind_and_bits(number_type: u16, bytes: &[u8]) -> (u64, u64) {
-    let unsigned = bytes.iter().fold(0_u64, |number, byte| number << 8 | u64::from(*byte));
-    let above = 64 - 8 * bytes.len();
-    match number_type {
-        20 | 22 | 24 => (1, (((unsigned << above) as i64) >> above) as u64),
-        5 => (3, unsigned),
-        6 => (4, unsigned),
-        _ => (2, unsigned),
+impl Type {
+    /// The bits of the number in so many bytes as the type has.
+    fn bits(self, bytes: &[u8]) -> u64 {
+        let mut high_first = bytes.to_vec();
+        if self.is_low_first {
+            high_first.reverse();
+        }
+        let unsigned = high_first.iter().fold(0_u64, |number, byte| number << 8 | u64::from(*byte));
+        let above = 64 - 8 * bytes.len();
+        match self.kind {
+            SIGNED => (((unsigned << above) as i64) >> above) as u64,
+            _ => unsigned,
+        }
+    }
+
+    /// Whether the type has values of a sort.
+    pub fn has(self, sort: Sort) -> bool {
+        match sort {
+            Sort::Negative => self.kind != UNSIGNED,
+            Sort::NotANumber => self.kind == FLOAT32 || self.kind == FLOAT64,
+            Sort::Other => true,
+        }
+    }
+}
+
+impl Value {
+    pub fn sort(&self) -> Sort {
+        let number = match self.kind {
+            SIGNED => self.bits as i64 as f64,
+            FLOAT32 => f32::from_bits(self.bits as u32).into(),
+            FLOAT64 => f64::from_bits(self.bits),
+            _ => self.bits as f64,
+        };
+        match (number.is_nan(), number.is_sign_negative()) {
+            (true, _) => Sort::NotANumber,
+            (false, true) => Sort::Negative,
+            (false, false) => Sort::Other,
+        }
     }
 }
 

@@ -38,7 +38,7 @@ pub enum Rule {
     Small,
     /// A record breaks its layout.
     Record,
-    /// A number type is not known.
+    /// A number type is not known, also less 16384.
     Type,
     /// The Vdata has no such record, field or component.
     NoValue,

@@ -27,7 +27,7 @@ pub struct Group<'a> {
 pub struct Field<'a> {
     /// The name, a part of the image.
     pub name: &'a [u8],
-    /// The type's code.
+    /// The type's code, from 16384 on where numbers stand low byte first. [`base_type`] gives its base type.
     pub number_type: u16,
     /// Bytes of the field in a record.
     pub size: u16,
@@ -35,6 +35,44 @@ pub struct Field<'a> {
     pub offset: u16,
     /// Numbers of the field in a record, at least 1.
     pub order: u16,
+}
+
+/// Which byte of a number stands first in the file.
+#[derive(Clone, Copy, Debug, PartialEq, Eq, Hash)]
+pub enum ByteOrder {
+    /// The high byte.
+    BigEndian,
+    /// The low byte.
+    LittleEndian,
+}
+
+/// The base type of a field's type: from 16384 on the type less 16384, else the type itself. The two are types of the same numbers.
+///
+/// ```
+/// assert_eq!([24, 16384 + 24].map(hdf4::base_type), [24, 24]);
+/// ```
+pub fn base_type(number_type: u16) -> u16 {
+    number_type.checked_sub(LITTLE_ENDIAN).unwrap_or(number_type)
+}
+
+impl Field<'_> {
+    /// The byte order that the type names, also where a number has one byte.
+    ///
+    /// [`read_value`] gives the same [`Value`] in either order; the bytes of element 1963 are in this one. [`pack_vdata`] keeps
+    /// it, since it keeps the type.
+    ///
+    /// ```
+    /// # use hdf4::{ByteOrder, Field};
+    /// let field = Field { name: b"height", number_type: 16384 + 24, size: 4, offset: 0, order: 1 };
+    /// assert_eq!(field.byte_order(), ByteOrder::LittleEndian);
+    /// ```
+    pub fn byte_order(&self) -> ByteOrder {
+        if base_type(self.number_type) == self.number_type {
+            ByteOrder::BigEndian
+        } else {
+            ByteOrder::LittleEndian
+        }
+    }
 }
 
 /// The head of a Vdata, of tag 1962. The interlace is 0 where the values stand by record, 1 where they stand by field; there
@@ -61,18 +99,21 @@ pub struct Vdata<'a> {
     pub more: u16,
 }
 
-/// A value of a Vdata. A float has the bits that it has in the file, also where it is a NaN.
+/// A value of a Vdata, as the base type of its field says. A float has the bits that it has in the file, also where it is a NaN.
 #[derive(Clone, Copy, Debug, PartialEq)]
 pub enum Value {
-    /// Of type 20, 22 or 24.
+    /// Of base type 20, 22 or 24.
     Signed(i64),
-    /// Of type 21, 23 or 25, or a character, type 3 or 4.
+    /// Of base type 21, 23 or 25, or a character, base type 3 or 4.
     Unsigned(u64),
-    /// Of type 5.
+    /// Of base type 5.
     Float32(f32),
-    /// Of type 6.
+    /// Of base type 6.
     Float64(f64),
 }
+
+/// What is added to a type whose numbers stand low byte first.
+const LITTLE_ENDIAN: u16 = ffi::LITTLE_ENDIAN as u16;
 
 const GROUP: u16 = 1965;
 const BYTES_OF_A_PAIR: usize = 4;
@@ -235,38 +276,66 @@ mod tests {
         assert_eq!(rule(list_group(&image, 5)), (Rule::Absent, 11, 0));
     }
 
-    fn vdata<'a>() -> Vdata<'a> {
-        let field = |name, number_type, size, offset, order| Field { name, number_type, size, offset, order };
-        let fields = vec![field(&b"height"[..], 22, 2, 0, 1), field(b"", 5, 8, 2, 2)];
+    fn field(name: &[u8], number_type: u16, size: u16, offset: u16, order: u16) -> Field<'_> {
+        Field { name, number_type, size, offset, order }
+    }
+
+    const ORDERS: [ByteOrder; 2] = [ByteOrder::BigEndian, ByteOrder::LittleEndian];
+
+    /// The type that has a base type and a byte order.
+    fn typed(base: u16, order: ByteOrder) -> u16 {
+        match order {
+            ByteOrder::BigEndian => base,
+            ByteOrder::LittleEndian => base + 16384,
+        }
+    }
+
+    /// The bytes of a number, given high byte first, in a byte order.
+    fn ordered(bytes: &[u8], order: ByteOrder) -> Vec<u8> {
+        match order {
+            ByteOrder::BigEndian => bytes.to_vec(),
+            ByteOrder::LittleEndian => bytes.iter().rev().copied().collect(),
+        }
+    }
+
+    fn vdata<'a>(order: ByteOrder) -> Vdata<'a> {
+        let fields = vec![field(b"height", typed(22, order), 2, 0, 1), field(b"", typed(5, order), 8, 2, 2)];
         let (name, class) = (&b"stations"[..], &b"roads"[..]);
         Vdata { interlace: 0, records: 2, record_size: 10, fields, name, class, extension: NONE, version: 3, more: 0 }
     }
 
+    fn packed_head(vdata: &Vdata) -> Vec<u8> {
+        let mut out = [0xee; 400];
+        let length = pack_vdata(vdata, &mut out).unwrap();
+        assert!(out[length..].iter().all(|byte| *byte == 0xee));
+        out[..length].to_vec()
+    }
+
     /// A Vdata and two records: -2, 1.5 and a NaN; 300, 0 and -0.
-    fn file_of_values(interlace: u16) -> Vec<u8> {
-        let [one, two] = [b"\xff\xfe\x3f\xc0\0\0\x7f\x80\0\x01", b"\x01\x2c\0\0\0\0\x80\0\0\0"];
+    fn file_of_values(order: ByteOrder, interlace: u16) -> Vec<u8> {
+        let records: [[&[u8]; 3]; 2] =
+            [[b"\xff\xfe", b"\x3f\xc0\0\0", b"\x7f\x80\0\x01"], [b"\x01\x2c", b"\0\0\0\0", b"\x80\0\0\0"]];
+        let [one, two] = records.map(|record| record.map(|bytes| ordered(bytes, order)).concat());
         let data = match interlace {
-            0 => [&one[..], two].concat(),
+            0 => [&one[..], &two].concat(),
             _ => [&one[..2], &two[..2], &one[2..], &two[2..]].concat(),
         };
-        let mut head = [0; 200];
-        let length = pack_vdata(&Vdata { interlace, ..vdata() }, &mut head).unwrap();
-        file_of(&[(1962, 7, &head[..length]), (1963, 7, &data)])
+        file_of(&[(1962, 7, &packed_head(&Vdata { interlace, ..vdata(order) })), (1963, 7, &data)])
     }
 
     #[test]
     fn a_head_is_packed_and_read() {
-        let image = file_of_values(0);
-        assert_eq!(read_vdata(&image, 7), Ok(vdata()));
-        let mut out = [0xee; 99];
-        let length = pack_vdata(&vdata(), &mut out).unwrap();
-        assert_eq!(view(&image, 1962, 7), Ok(&out[..length]));
-        assert!(out[length..].iter().all(|byte| *byte == 0xee));
+        for order in ORDERS {
+            let image = file_of_values(order, 0);
+            let read = read_vdata(&image, 7).unwrap();
+            assert_eq!(read, vdata(order));
+            assert_eq!(view(&image, 1962, 7), Ok(&packed_head(&read)[..]));
+        }
     }
 
     #[test]
-    fn values_stand_by_record_or_by_field() {
-        for image in [file_of_values(0), file_of_values(1)] {
+    fn values_stand_by_record_or_by_field_in_either_byte_order() {
+        for image in ORDERS.iter().flat_map(|order| [0, 1].map(|interlace| file_of_values(*order, interlace))) {
             assert_eq!(read_value(&image, 7, 0, 0, 0), Ok(Value::Signed(-2)));
             assert_eq!(read_value(&image, 7, 1, 0, 0), Ok(Value::Signed(300)));
             assert_eq!(read_value(&image, 7, 0, 1, 0), Ok(Value::Float32(1.5)));
@@ -279,22 +348,71 @@ mod tests {
         }
     }
 
+    /// Every base type with a number of it: its bytes, high byte first, and its value.
+    const NUMBERS: [(u16, &[u8], Value); 10] = [
+        (3, b"\xe9", Value::Unsigned(0xe9)),
+        (4, b"n", Value::Unsigned(0x6e)),
+        (5, b"\xc0\x20\0\x01", Value::Float32(-2.500_000_2)),
+        (6, b"\x3f\xf0\0\0\0\0\0\x01", Value::Float64(1.000_000_000_000_000_2)),
+        (20, b"\x80", Value::Signed(-128)),
+        (21, b"\x80", Value::Unsigned(128)),
+        (22, b"\xff\x01", Value::Signed(-255)),
+        (23, b"\xff\x01", Value::Unsigned(65281)),
+        (24, b"\x80\0\0\x02", Value::Signed(-2_147_483_646)),
+        (25, b"\x80\0\0\x02", Value::Unsigned(2_147_483_650)),
+    ];
+
+    /// One record with a number of every type in both byte orders.
+    #[test]
+    fn numbers_of_every_type_are_read_in_either_byte_order() {
+        let numbers = || NUMBERS.iter().flat_map(|number| ORDERS.map(|order| (number, order)));
+        let (mut fields, mut record) = (Vec::new(), Vec::new());
+        for ((base, bytes, _), order) in numbers() {
+            fields.push(field(b"", typed(*base, order), bytes.len() as u16, record.len() as u16, 1));
+            record.extend(ordered(bytes, order));
+        }
+        let record_size = record.len() as u16;
+        let head = packed_head(&Vdata { records: 1, record_size, fields, ..vdata(ByteOrder::BigEndian) });
+        let image = file_of(&[(1962, 7, &head), (1963, 7, &record)]);
+        let read = read_vdata(&image, 7).unwrap();
+        for (index, ((base, _, value), order)) in numbers().enumerate() {
+            let field = &read.fields[index];
+            assert_eq!((field.number_type, field.byte_order()), (typed(*base, order), order));
+            assert_eq!((base_type(field.number_type), read_value(&image, 7, 0, index, 0)), (*base, Ok(*value)), "{order:?}");
+        }
+        assert_eq!(packed_head(&read), head);
+    }
+
+    /// Every code that is no type, also less 16384.
+    #[test]
+    fn other_types_are_refused() {
+        let types: Vec<u16> = NUMBERS.iter().flat_map(|(base, ..)| ORDERS.map(|order| typed(*base, order))).collect();
+        let (mut bad, mut image) = (vdata(ByteOrder::LittleEndian), file_of_values(ByteOrder::LittleEndian, 0));
+        let place = view(&image, 1962, 7).unwrap().as_ptr() as usize - image.as_ptr() as usize;
+        for code in (0..=u16::MAX).filter(|code| !types.contains(code)) {
+            bad.fields[1].number_type = code;
+            assert_eq!(rule(pack_vdata(&bad, &mut [0; 99])), (Rule::Type, 16, 0), "{code}");
+            image[place + 12..place + 14].copy_from_slice(&code.to_be_bytes());
+            assert_eq!(rule(read_vdata(&image, 7)), (Rule::Type, 16, 10), "{code}");
+            assert_eq!(rule(read_value(&image, 7, 9, 9, 9)), (Rule::Type, 16, 10), "{code}");
+        }
+    }
+
+    #[test]
+    fn a_base_type_has_16384_taken_off_once() {
+        assert_eq!([3, 24, 16383, 16384, 16408].map(base_type), [3, 24, 16383, 0, 24]);
+        assert_eq!([32767, 32768 + 24, 65535].map(base_type), [16383, 16384 + 24, 49151]);
+    }
+
     #[test]
     fn heads_are_refused_by_their_rules() {
-        let mut bad = vdata();
+        let mut bad = vdata(ByteOrder::BigEndian);
         bad.fields[1].number_type = 7;
-        assert_eq!(rule(pack_vdata(&bad, &mut [0; 99])), (Rule::Type, 16, 0));
         bad.fields[0].order = 0;
         assert_eq!(rule(pack_vdata(&bad, &mut [0; 99])), (Rule::Record, 15, 0));
         let long = vec![b'a'; 65536];
-        let mut bad = vdata();
+        let mut bad = vdata(ByteOrder::BigEndian);
         bad.fields[0].name = &long;
         assert_eq!(rule(pack_vdata(&bad, &mut [0; 99])), (Rule::Record, 15, 0));
-
-        let mut image = file_of_values(0);
-        let place = view(&image, 1962, 7).unwrap().as_ptr() as usize - image.as_ptr() as usize;
-        image[place + 11] = 7;
-        assert_eq!(rule(read_vdata(&image, 7)), (Rule::Type, 16, 10));
-        assert_eq!(rule(read_value(&image, 7, 9, 9, 9)), (Rule::Type, 16, 10));
     }
 }

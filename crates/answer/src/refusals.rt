@@ -58,7 +58,8 @@ pub const SMALL: usize = 14;
 // A record breaks its layout.
 pub const RECORD: usize = 15;
 
-// A number type is not known.
+// A number type is not known, also less 16384.
+// Says: a number type is not known.
 pub const TYPE: usize = 16;
 
 // The Vdata has no such record, field or component.

@@ -15,7 +15,7 @@ ghost use Rattle.hdf4.specs.Steps.{Lies, ReadsFields, fieldIn};
 // A field of a Vdata.
 #[repr(C)]
 pub struct Field {
-    // C: type. The type's code.
+    // C: type. The type's code, as it is stored.
     pub code: u16,
     // Bytes of the field in a record.
     pub size: u16,

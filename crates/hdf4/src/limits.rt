@@ -1,4 +1,4 @@
-// Numbers for callers: limits, and the kinds of values.
+// Numbers for callers: limits, the mark of a byte order, and the kinds of values.
 
 // The most bytes that an image has.
 pub const MOST_BYTES: usize = 2147483647;
@@ -14,6 +14,9 @@ pub const MOST_FIELDS: usize = 256;
 
 // The most pairs that the listing of a group has.
 pub const MOST_PAIRS: usize = 4096;
+
+// Added to the code of a field's type where numbers stand low byte first.
+pub const LITTLE_ENDIAN: usize = 16384;
 
 // C: enum hdf4_kind, the kinds of values. A signed number.
 pub const SIGNED: u64 = 1;

@@ -168,7 +168,8 @@ pub extern "C" fn hdf4_pack_group(
 }
 
 // Reads the head of a Vdata, tag 1962: type, size, offset and order of each field, and place in the image and length of each field's
-// name. Tables of 4 times and 2 times `MOST_FIELDS` entries are always enough.
+// name. A type is given as it is stored, with `LITTLE_ENDIAN` added where numbers stand low byte first. Tables of 4 times and 2 times
+// `MOST_FIELDS` entries are always enough.
 #[no_mangle]
 pub extern "C" fn hdf4_read_vdata(
     image: &[u8],
@@ -309,7 +310,8 @@ fn value_answer(v: Value) -> ValueAnswer
     }
 }
 
-// Reads one value of a Vdata, its head of tag 1962 and its data of tag 1963. All indices count from 0.
+// Reads one value of a Vdata, its head of tag 1962 and its data of tag 1963. All indices count from 0. Kind and bits are the number's,
+// whichever of its bytes stands first in the image.
 #[no_mangle]
 pub extern "C" fn hdf4_read_value(
     image: &[u8],

@@ -5,7 +5,7 @@ use mathlib.Core.Bool.{Bool, true, false}
 use native.Mathlib.Omega.{arith}
 use lib.ListN.{length, take, set}
 use lib.Dec.{eqb}
-use Rattle.wire.specs.Numbers.{bytes, put, Bytes}
+use Rattle.wire.specs.Numbers.{bytes, put, Bytes, bytesIn}
 use Rattle.wire.specs.Layouts.{pack}
 use Rattle.wire.proofs.Numbers.{bytes-take}
 use Rattle.directory.specs.Limits.{free-tag}
@@ -38,7 +38,7 @@ bytes-put s at [] h g = h
 bytes-put s at (v ∷ vs) h g = bytes-put (set s at v) (suc at) vs (bytes-set s at v (g 0) h) (λ i. g (suc i))
 
 bytes-number : (k x : ℕ) → Bytes (bytes k x)
-unfolding bytes
+unfolding bytesIn
 bytes-number zero x = bytes-nil
 bytes-number (suc k) x = bytes-append (bytes k (x / 256)) (x % 256 ∷ []) (bytes-number k (x / 256)) (bytes-cons (x % 256) [] (omega arith) bytes-nil)
 

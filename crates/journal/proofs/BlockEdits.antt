@@ -7,7 +7,8 @@ use mathlib.Core.List.{List, [], _∷_, _++_, append-assoc, append-nil}
 use native.Mathlib.Omega.{arith}
 use lib.ListN.{length, getD, length-append}
 use Rattle.wire.specs.Numbers.{bytes, put}
-use Rattle.wire.proofs.Numbers.{Same, Holds, length-bytes, be-same, be-holds}
+use Rattle.wire.specs.declared.ByteOrder.the-variants.{BigEndian}
+use Rattle.wire.proofs.Numbers.{Same, Holds, length-bytes, number-same, number-holds}
 use Rattle.directory.specs.Limits.{most-blocks, most-slots}
 use Rattle.directory.specs.Blocks.{slotCount, nextBlock, blockEnd}
 use Rattle.directory.specs.Slots.{rows, slotPlaces}
@@ -81,8 +82,8 @@ block-reads t e slot n h =
     let h₁ = holds-left t e t₁ (bytes 4 0) h₂ in
     let w : e + 6 + slot-size ≡ e + 18 = omega arith in
     record {
-      count = be-holds 2 t e block-slots (omega arith) h₁;
-      next = be-last 4 t e 2 t₁ 0 (length-bytes 2 block-slots) (omega arith) h₂;
+      count = number-holds BigEndian 2 t e block-slots (omega arith) h₁;
+      next = be-last 4 t e 2 t₁ 0 (length-bytes BigEndian 2 block-slots) (omega arith) h₂;
       slot-held = holds-right t e 6 t₂ slot (simp (length-append, length-bytes)) h₃;
       others = rw w (frees-held t (e + 18) 15 (holds-right t e 18 t₃ (freeSlots 15) (simp (length-append, length-bytes, n)) h));
     }
@@ -117,12 +118,12 @@ module _ (s bs : List ℕ) (k : Kept s bs) (t slot : List ℕ) (grown : length s
   count-same : (c : ℕ) → In c bs → slotCount t c ≡ slotCount s c
   count-same c i =
       elim (same? c (lastOf 4 bs)) [
-        | inl e ↦ be-same 2 s t c (λ j l u. low j (omega arith) (omega arith))
-        | inr n ↦ be-same 2 s t c (λ j l u. apart-same c i n j l (omega arith))
+        | inl e ↦ number-same BigEndian 2 s t c (λ j l u. low j (omega arith) (omega arith))
+        | inr n ↦ number-same BigEndian 2 s t c (λ j l u. apart-same c i n j l (omega arith))
       ]
 
   next-same : (c : ℕ) → In c bs → (c ≡ lastOf 4 bs → ⊥) → nextBlock t c ≡ nextBlock s c
-  next-same c i n = be-same 4 s t (c + 2) (λ j l u. apart-same c i n j (omega arith) (omega arith))
+  next-same c i n = number-same BigEndian 4 s t (c + 2) (λ j l u. apart-same c i n j (omega arith) (omega arith))
 
   places-are : slotPlaces t (bs ++ (length s ∷ [])) ≡ slotPlaces s bs ++ rows (length s + 6) block-slots
   unfolding slotPlaces
@@ -161,7 +162,7 @@ module _ (s bs : List ℕ) (k : Kept s bs) (t slot : List ℕ) (grown : length s
       let after = k .after-header b last-in in
       record {
         grown = omega arith;
-        header = be-same 4 s t 0 (λ j l u. low j l (omega arith));
+        header = number-same BigEndian 4 s t 0 (λ j l u. low j l (omega arith));
         chain = record {
           first = linked-first s bs (length s ∷ []) (k .linked) ∙ k .first;
           linked = linked-more s t 4 bs (length s) next-same link (new .next) (blocks-distinct s bs blocks) (k .linked);
@@ -197,13 +198,13 @@ module _ (s bs : List ℕ) (k : Kept s bs) (slot content : List ℕ) (n : length
       let inside : b + 2 + link-size ≤ length s = omega (arith, k .inside b last) in
       let made : Changed s (b + 2) link-size (newBlock slot ++ content) t × Holds t (b + 2) (bytes 4 (length s)) =
       rw (append-assoc (put s (b + 2) (bytes 4 (length s))) (newBlock slot) content)
-      (changed s (b + 2) link-size (bytes 4 (length s)) (newBlock slot ++ content) (length-bytes 4 (length s)) inside (k .short) (omega arith)) in
+      (changed s (b + 2) link-size (bytes 4 (length s)) (newBlock slot ++ content) (length-bytes BigEndian 4 (length s)) inside (k .short) (omega arith)) in
       let c = made .0 in
       let more : length (newBlock slot ++ content) ≡ block-size + length content =
       length-append (newBlock slot) content ∙ rw (length-block slot n) in
       let grown : length s + block-size ≤ length t = omega (arith, c .size) in
       let high : Same s t (b + 6) (length s) = λ j l u. c .high j (omega arith) u in
-      let link : nextBlock t b ≡ length s = be-holds 4 t (b + 2) (length s) (omega (arith, k .short)) (made .1) in
+      let link : nextBlock t b ≡ length s = number-holds BigEndian 4 t (b + 2) (length s) (omega (arith, k .short)) (made .1) in
       let new : BlockReads t (length s) slot = block-reads t (length s) slot n (holds-left t (length s) (newBlock slot) content (c .more)) in
       let same = places-are s bs k t slot grown (c .low) high link new few room in
       record {

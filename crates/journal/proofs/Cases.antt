@@ -1,7 +1,7 @@
 -- The marked cases of document 01: in every row of the table the definitions compute what the paper says. Assumes nothing.
 use mathlib.Core.Path.{_≡_, refl}
 use mathlib.Core.List.{map}
-use Rattle.wire.specs.Numbers.{be, bytes, put, part}
+use Rattle.wire.specs.Numbers.{numberIn, bytesIn, put, part}
 use Rattle.wire.specs.Layouts.{read, pack}
 use Rattle.answer.specs.Lent.{laidOver}
 use Rattle.answer.specs.Search.{must, any, first}
@@ -20,5 +20,5 @@ use Rattle.journal.specs.History.{edited, below, decided, pushed, popped
 use Rattle.journal.specs.Cases.{A-added, A-added-twice, markedCases}
 
 pub marked-cases : map (λ (r : Row). r .computed) markedCases ≡ map (λ (r : Row). r .paper) markedCases
-unfolding be bytes put part read pack must any first meets meetsBlock onDirectory blockFault chainFrom chain blocksOf rows slotPlaces slotsOf liveAt baseTag unstoredAt sizeAt clash elementFault slotFault slotsFrom openChain headed openOf has find lastOf four-bytes A openingCases passing openedTo trailerAt trailerBytes carries previousOf pastFirst oldBytes slotBytes freeSlot freeSlots newBlock dataOffset dataSlot slotEdit blockEdit fitFault fitted badTag tagged addAt addOf restored placeKnown known opens sound undoTo undoOf edited below decided pushed popped historyAfter historyAfterAll historyAnswers laidOver imageIn addIn undoIn outcome sizeAfter left stateAfter stateAfterAll answers A-added A-added-twice markedCases
+unfolding numberIn bytesIn put part read pack must any first meets meetsBlock onDirectory blockFault chainFrom chain blocksOf rows slotPlaces slotsOf liveAt baseTag unstoredAt sizeAt clash elementFault slotFault slotsFrom openChain headed openOf has find lastOf four-bytes A openingCases passing openedTo trailerAt trailerBytes carries previousOf pastFirst oldBytes slotBytes freeSlot freeSlots newBlock dataOffset dataSlot slotEdit blockEdit fitFault fitted badTag tagged addAt addOf restored placeKnown known opens sound undoTo undoOf edited below decided pushed popped historyAfter historyAfterAll historyAnswers laidOver imageIn addIn undoIn outcome sizeAfter left stateAfter stateAfterAll answers A-added A-added-twice markedCases
 marked-cases = refl

@@ -7,7 +7,8 @@ use mathlib.Core.List.{List, [], _∷_}
 use native.Mathlib.Omega.{arith}
 use lib.ListN.{length}
 use Rattle.wire.specs.Numbers.{be}
-use Rattle.wire.proofs.Numbers.{Same, be-same}
+use Rattle.wire.specs.declared.ByteOrder.the-variants.{BigEndian}
+use Rattle.wire.proofs.Numbers.{Same, number-same}
 use Rattle.directory.specs.Limits.{most-bytes}
 use Rattle.directory.specs.Blocks.{slotCount, blockEnd}
 use Rattle.directory.specs.Slots.{tagAt, refAt, offsetAt, sizeAt, slotPlaces}
@@ -31,12 +32,12 @@ pub record SlotSame (s t : List ℕ) (p : ℕ) : Type 0 where
 
 pub slot-same : (s t : List ℕ) (p : ℕ) → Same s t p (p + slot-size) → SlotSame s t p
 slot-same s t p h =
-    let a = be-same 2 s t p (λ i l u. h i l (omega arith)) in
-    let o = be-same 4 s t (p + 4) (λ i l u. h i (omega arith) (omega arith)) in
-    let n = be-same 4 s t (p + 8) (λ i l u. h i (omega arith) (omega arith)) in
+    let a = number-same BigEndian 2 s t p (λ i l u. h i l (omega arith)) in
+    let o = number-same BigEndian 4 s t (p + 4) (λ i l u. h i (omega arith) (omega arith)) in
+    let n = number-same BigEndian 4 s t (p + 8) (λ i l u. h i (omega arith) (omega arith)) in
     record {
       tag = a;
-      ref = be-same 2 s t (p + 2) (λ i l u. h i (omega arith) (omega arith));
+      ref = number-same BigEndian 2 s t (p + 2) (λ i l u. h i (omega arith) (omega arith));
       offset = o;
       unstored = unstored-same s t p a o n;
       size = size-same s t p a o n;

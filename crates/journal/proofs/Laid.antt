@@ -6,6 +6,7 @@ use mathlib.Core.List.{List, _++_, append-assoc}
 use lib.ListN.{length, take, drop, length-append}
 use lib.Seq.{length-take-le}
 use Rattle.wire.specs.Numbers.{bytes, put}
+use Rattle.wire.specs.declared.ByteOrder.the-variants.{BigEndian}
 use Rattle.wire.proofs.Numbers.{length-bytes, length-put, put-put, put-split, put-append}
 use Rattle.journal.specs.Trailers.{trailer-size, slot-size, link-size, trailerBytes, changeAt}
 use Rattle.journal.specs.Edits.{block-size, slotBytes, dataOffset, dataSlot, newBlock, slotEdit, blockEdit, fitFault, fitted}
@@ -96,7 +97,7 @@ module _ (l : List ℕ) (n b : ℕ) (fit : n ≤ length l) (inside : b + 6 ≤ n
   block-file = rw (length-take-le n l fit) (simp append-assoc)
 
   link-inside : b + 2 + length (bytes 4 n) ≤ n
-  link-inside = omega (arith, length-bytes 4 n)
+  link-inside = omega (arith, length-bytes BigEndian 4 n)
 
   pub block-refused : (k : ℕ) → k ≡ fitFault (length l) (n + block-size + length content + trailer-size) → (k ≡ 0 → ⊥)
       → Leaves (blockIn l n b tag ref content) l l (Refused (record { number = k; place = 0 }))

@@ -9,7 +9,8 @@ use lib.Seq.{getD-append-add, getD-take, getD-drop, ext-getD, length-take-le}
 use lib.Dec.{ltb}
 use borrow.Author.Tests.{ltb-true, ltb-false}
 use Rattle.wire.specs.Numbers.{be, bytes, put, part}
-use Rattle.wire.proofs.Numbers.{Same, Holds, length-put, length-part, put-append, put-kept, put-holds, be-holds}
+use Rattle.wire.specs.declared.ByteOrder.the-variants.{BigEndian}
+use Rattle.wire.proofs.Numbers.{Same, Holds, length-put, length-part, put-append, put-kept, put-holds, number-holds}
 use Rattle.answer.proofs.Tests.{test}
 
 -- ---- What stands at a place
@@ -32,7 +33,7 @@ holds-append t x a v n h i l = List·getD-append t x 0 (a + i) (omega arith) ∙
 
 -- the last number of a list that stands there
 pub be-last : (k : ℕ) (t : List ℕ) (a n : ℕ) (v : List ℕ) (x : ℕ) → length v ≡ n → x < 256 ^ k → Holds t a (v ++ bytes k x) → be k t (a + n) ≡ x
-be-last k t a n v x e b h = be-holds k t (a + n) x b (holds-right t a n v (bytes k x) e h)
+be-last k t a n v x e b h = number-holds BigEndian k t (a + n) x b (holds-right t a n v (bytes k x) e h)
 
 -- ---- The same bytes in two lists
 

@@ -5,7 +5,8 @@ use mathlib.Core.Logic.{inl, inr}
 use mathlib.Core.List.{List, [], _∷_}
 use native.Mathlib.Omega.{arith}
 use lib.ListN.{length}
-use Rattle.wire.proofs.Numbers.{Same, be-same}
+use Rattle.wire.specs.declared.ByteOrder.the-variants.{BigEndian}
+use Rattle.wire.proofs.Numbers.{Same, number-same}
 use Rattle.directory.specs.Blocks.{slotCount, nextBlock}
 use Rattle.directory.specs.Slots.{slotPlaces, slotsOf}
 use Rattle.answer.specs.Search.{In}
@@ -37,10 +38,10 @@ module _ (s bs : List ℕ) (k : Kept s bs) (q : ℕ) (here : In q (slotPlaces s 
       ]
 
   count-same : (b : ℕ) → In b bs → slotCount t b ≡ slotCount s b
-  count-same b i = be-same 2 s t b (λ j l u. header-same b i j l (omega arith))
+  count-same b i = number-same BigEndian 2 s t b (λ j l u. header-same b i j l (omega arith))
 
   next-same : (b : ℕ) → In b bs → nextBlock t b ≡ nextBlock s b
-  next-same b i = be-same 4 s t (b + 2) (λ j l u. header-same b i j (omega arith) (omega arith))
+  next-same b i = number-same BigEndian 4 s t (b + 2) (λ j l u. header-same b i j (omega arith) (omega arith))
 
   places-are : slotPlaces t bs ≡ slotPlaces s bs
   places-are = places-same s t bs count-same
@@ -59,7 +60,7 @@ module _ (s bs : List ℕ) (k : Kept s bs) (q : ℕ) (here : In q (slotPlaces s 
       let b = slot-block s bs q here in
       record {
         grown = grown;
-        header = be-same 4 s t 0 (λ j l u. low j l (omega arith));
+        header = number-same BigEndian 4 s t 0 (λ j l u. low j l (omega arith));
         chain = record {
           first = k .first;
           linked = linked-same s t bs next-same (k .linked);

@@ -10,9 +10,10 @@ use lib.ListN.{length, getD, length-append}
 use lib.Dec.{leb, eqb}
 use borrow.Author.Tests.{le-leb, lt-leb, leb-true, eq-eqb, ne-eqb}
 use Rattle.wire.specs.Numbers.{be, bytes, put, part, Bytes}
+use Rattle.wire.specs.declared.ByteOrder.the-variants.{BigEndian}
 use Rattle.wire.specs.Layouts.{read, pack, given, numbers, Fits}
-use Rattle.wire.proofs.Numbers.{length-bytes, be-small, bytes-be}
-use Rattle.wire.proofs.Layouts.{part-add, put-field, PackedAt, packed-at}
+use Rattle.wire.proofs.Numbers.{length-bytes, number-small, bytes-number, part-add}
+use Rattle.wire.proofs.Layouts.{put-field, PackedAt, packed-at}
 use Rattle.answer.proofs.Tests.{and-both, and-split}
 use Rattle.directory.specs.Limits.{most-bytes}
 use Rattle.journal.specs.Trailers.{trailer-size, slot-size, link-size, closing, least-trailed, trailer, trailerNumbers, trailerAt, trailerBytes, carries, previousOf, pastFirst, changeAt, oldBytes}
@@ -34,7 +35,7 @@ unfolding trailerAt read
 trailer-fields s t = simp add-assoc
 
 pub place-small : (s : List ℕ) (t : ℕ) → Bytes s → (c : Change) → c ≡ trailerAt s t → c .place < 4294967296
-place-small s t all c is = rw (ap (λ x. x .place) (is ∙ trailer-fields s t)) (be-small 4 s t all)
+place-small s t all c is = rw (ap (λ x. x .place) (is ∙ trailer-fields s t)) (number-small BigEndian 4 s t all)
 
 pub length-trailer : (c : Change) → length (trailerBytes c) ≡ trailer-size
 unfolding trailerBytes pack
@@ -95,13 +96,13 @@ module _ (s : List ℕ) (all : Bytes s) (short : length s ≤ most-bytes) (p k :
       omega arith,
       (
         omega arith,
-        be-small 4 s p all,
+        number-small BigEndian 4 s p all,
         (
           omega arith,
-          past-small k _ (be-small 4 s (p + 4) all),
+          past-small k _ (number-small BigEndian 4 s (p + 4) all),
           (
             omega arith,
-            past-small k _ (be-small 4 s (p + 8) all),
+            past-small k _ (number-small BigEndian 4 s (p + 8) all),
             (
               omega arith,
               omega arith,
@@ -143,7 +144,7 @@ pub slot-old : (s : List ℕ) (p : ℕ) → Bytes s → p + slot-size ≤ length
 slot-old s p b h =
     let two : part s p 8 ≡ part s p 4 ++ part s (p + 4) 4 = part-add s p 4 4 in
     let three : part s p 12 ≡ part s p 8 ++ part s (p + 8) 4 = part-add s p 8 4 in
-    rw (bytes-be 4 s p b (omega arith), bytes-be 4 s (p + 4) b (omega arith), bytes-be 4 s (p + 8) b (omega arith)) (sym (three ∙ ap (λ x. x ++ part s (p + 8) 4) two))
+    rw (bytes-number BigEndian 4 s p b (omega arith), bytes-number BigEndian 4 s (p + 4) b (omega arith), bytes-number BigEndian 4 s (p + 8) b (omega arith)) (sym (three ∙ ap (λ x. x ++ part s (p + 8) 4) two))
 
 -- a slot or a next field was altered
 abbrev pub Sized : ℕ → Type 0
@@ -153,12 +154,12 @@ Sized k = (k ≡ slot-size) ⊎ (k ≡ link-size)
 pub old-there : (s : List ℕ) (p k : ℕ) → Bytes s → p + k ≤ length s → Sized k → oldBytes (changeAt s p k) ≡ part s p k
 unfolding oldBytes pastFirst
 old-there s p k b h (inl e) = ap (λ x. oldBytes (changeAt s p x)) e ∙ slot-old s p b (omega arith) ∙ ap (part s p) (sym e)
-old-there s p k b h (inr e) = ap (λ x. oldBytes (changeAt s p x)) e ∙ bytes-be 4 s p b (omega arith) ∙ ap (part s p) (sym e)
+old-there s p k b h (inr e) = ap (λ x. oldBytes (changeAt s p x)) e ∙ bytes-number BigEndian 4 s p b (omega arith) ∙ ap (part s p) (sym e)
 
 pub length-old : (c : Change) → Sized (c .altered) → length (oldBytes c) ≡ c .altered
 unfolding oldBytes
 length-old c (inl e) = rw (oldBytes, e) (simp (length-append, length-bytes))
-length-old c (inr e) = rw (oldBytes, e) (length-bytes 4 (c .first))
+length-old c (inr e) = rw (oldBytes, e) (length-bytes BigEndian 4 (c .first))
 
 -- written one after the other
 module _ (l : List ℕ) (c : Change) {l₁ : List ℕ} (e₁ : l₁ ≡ put l (c .place) (bytes 4 (c .first))) where

@@ -6,7 +6,8 @@ use mathlib.Core.List.{List, [], _∷_, _++_}
 use native.Mathlib.Omega.{arith}
 use lib.ListN.{length, length-append}
 use Rattle.wire.specs.Numbers.{bytes, part, Bytes}
-use Rattle.wire.proofs.Numbers.{Same, Holds, length-bytes, be-holds}
+use Rattle.wire.specs.declared.ByteOrder.the-variants.{BigEndian}
+use Rattle.wire.proofs.Numbers.{Same, Holds, length-bytes, number-holds}
 use Rattle.directory.specs.Limits.{most-bytes, free-tag}
 use Rattle.directory.specs.Blocks.{blockEnd}
 use Rattle.directory.specs.Slots.{tagAt, refAt, offsetAt, baseTag, sizeAt, contentAt, slotPlaces}
@@ -38,8 +39,8 @@ slot-reads t q tag ref offset size b₁ b₂ b₃ b₄ h =
     let h₂ = holds-left t q t₂ (bytes 4 offset) h₃ in
     let h₁ = holds-left t q t₁ (bytes 2 ref) h₂ in
     record {
-      tag-is = be-holds 2 t q tag b₁ h₁;
-      ref-is = be-last 2 t q 2 t₁ ref (length-bytes 2 tag) b₂ h₂;
+      tag-is = number-holds BigEndian 2 t q tag b₁ h₁;
+      ref-is = be-last 2 t q 2 t₁ ref (length-bytes BigEndian 2 tag) b₂ h₂;
       offset-is = be-last 4 t q 4 t₂ offset (simp (length-append, length-bytes)) b₃ h₃;
       length-is = be-last 4 t q 8 t₃ size (simp (length-append, length-bytes)) b₄ h;
     }

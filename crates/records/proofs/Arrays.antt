@@ -9,7 +9,8 @@ use lib.Dec.{leb}
 use lib.Seq.{sets, take-append-seam, drop-append-seam, take-length, drop-length}
 use borrow.Author.Tests.{eq-eqb, ne-eqb, eqb-true, le-leb, lt-leb, leb-true}
 use Rattle.wire.specs.Numbers.{be, bytes, put, part, Bytes}
-use Rattle.wire.proofs.Numbers.{be-small, length-bytes}
+use Rattle.wire.specs.declared.ByteOrder.the-variants.{BigEndian}
+use Rattle.wire.proofs.Numbers.{number-small, length-bytes}
 use Rattle.answer.specs.Answer.{Answer, grant, refuse, refusal, inRoom}
 use Rattle.answer.specs.declared.Refusal.{Refusal}
 use Rattle.answer.proofs.Tests.{and-both}
@@ -180,7 +181,7 @@ pub own-passes : (e : List ℕ) → arrayFault e ≡ 0 → Bytes e → arrayPack
 unfolding read arraySizes arrayPairs
 own-passes e sound b =
     let rank = be 2 e 0 in
-    simp length-numbersAt (pack-passes rank (2 * (rank + 1)) (some-rank e sound) (omega (arith, be-small 2 e 0 b)) refl)
+    simp length-numbersAt (pack-passes rank (2 * (rank + 1)) (some-rank e sound) (omega (arith, number-small BigEndian 2 e 0 b)) refl)
 
 module _ (sizes pairs : List ℕ) (h : length pairs ≡ 2 * (length sizes + 1)) where
   pub array-bytes : arrayBytes sizes pairs ≡ bytes 2 (length sizes) ++ (bytesEach 4 sizes ++ (bytesEach 2 pairs ++ []))

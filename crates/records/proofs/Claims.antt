@@ -4,10 +4,12 @@ use Prim.Native.Nat.{ℕ, _+_, _*_, _^_, _<_, _≤_}
 use native.Mathlib.Omega.{arith}
 use mathlib.Core.Path.{_≡_, refl, sym, ap, _∙_}
 use mathlib.Core.Bool.{false}
+use mathlib.Core.Logic.{inl, inr}
 use mathlib.Core.List.{List, [], _∷_, _++_}
 use lib.ListN.{length, getD}
 use borrow.Author.Tests.{le-leb}
 use Rattle.wire.specs.Numbers.{be, part, Bytes}
+use Rattle.wire.specs.declared.ByteOrder.the-variants.{BigEndian, LittleEndian}
 use Rattle.answer.specs.Answer.{Answer, grant}
 use Rattle.answer.specs.Search.{hit, In}
 use Rattle.directory.specs.Slots.{contentAt}
@@ -26,7 +28,7 @@ use Rattle.records.specs.Packings.{PacksBack}
 use Rattle.records.specs.NumberTypes.{numberType, numberTypeValues, numberTypeFault, numberTypeAt, numberTypeOf, numberTypeBytes}
 use Rattle.records.specs.Dimensions.{dimension, dimensionValues, dimensionFault, dimensionAt, dimensionOf, dimensionBytes, dimensionPackFault}
 use Rattle.records.specs.Arrays.{array, arrayFault, arraySizes, arrayPairs, arrayAt, arrayOf, arrayBytes, arrayPackFault}
-use Rattle.records.specs.Types.{Kind, signed, unsigned, float, types, rowOf, widthOf, kindOf}
+use Rattle.records.specs.Types.{Kind, signed, unsigned, float, types, rowOf, baseType, byteOrderOf, widthOf, kindOf}
 use Rattle.records.specs.declared.number_type.NumberType.{NumberType}
 use Rattle.records.specs.declared.dimension.Dimension.{Dimension}
 use Rattle.wire.proofs.Layouts.{packed-whole}
@@ -36,7 +38,7 @@ use Rattle.records.proofs.Packings.{packs-back}
 use Rattle.records.proofs.NumberTypes
 use Rattle.records.proofs.Dimensions
 use Rattle.records.proofs.Arrays
-use Rattle.records.proofs.Types.{row-none}
+use Rattle.records.proofs.Types.{row-none, base-low, base-added, base-is, same-width, same-kind, same-added}
 
 -- ---- Files that opened before request (vii)
 
@@ -142,9 +144,11 @@ module _ (sizes pairs : List ℕ) (sound : arrayPackFault (length sizes) (length
 
 -- ---- Types
 
--- values of the type have so many bytes and are of this kind
+-- values of the type have so many bytes and are of this kind, high byte first; and with 16384 added to its code low byte first
 abbrev pub HasType : ℕ → ℕ → Kind → Type 0
-HasType code width kind = (widthOf code ≡ width) × (kindOf code ≡ kind)
+HasType code width kind =
+    (widthOf code ≡ width) × (kindOf code ≡ kind) × (byteOrderOf code ≡ BigEndian)
+    × (widthOf (code + 16384) ≡ width) × (kindOf (code + 16384) ≡ kind) × (byteOrderOf (code + 16384) ≡ LittleEndian)
 
 -- 3, 4, 20, 21 one byte; 22, 23 two; 24, 25, 5 four; 6 eight; 20, 22, 24 signed; 5 and 6 floats; every other code is unknown
 pub types-are :
@@ -152,18 +156,33 @@ pub types-are :
     × HasType 22 2 signed × HasType 23 2 unsigned
     × HasType 24 4 signed × HasType 25 4 unsigned × HasType 5 4 float
     × HasType 6 8 float
-    × ((code : ℕ) → (In code (3 ∷ 4 ∷ 20 ∷ 21 ∷ 22 ∷ 23 ∷ 24 ∷ 25 ∷ 5 ∷ 6 ∷ []) → ⊥) → widthOf code ≡ 0)
-unfolding widthOf kindOf rowOf
+    × ((code : ℕ) → ((base : ℕ) → In base (3 ∷ 4 ∷ 20 ∷ 21 ∷ 22 ∷ 23 ∷ 24 ∷ 25 ∷ 5 ∷ 6 ∷ []) → (code ≡ base → ⊥) × (code ≡ base + 16384 → ⊥)) → widthOf code ≡ 0)
+unfolding baseType byteOrderOf widthOf kindOf rowOf
 types-are = (
-  (refl, refl),
-  (refl, refl),
-  (refl, refl),
-  (refl, refl),
-  (refl, refl),
-  (refl, refl),
-  (refl, refl),
-  (refl, refl),
-  (refl, refl),
-  (refl, refl),
-  λ code z. row-none code types z,
+  (refl, refl, refl, refl, refl, refl),
+  (refl, refl, refl, refl, refl, refl),
+  (refl, refl, refl, refl, refl, refl),
+  (refl, refl, refl, refl, refl, refl),
+  (refl, refl, refl, refl, refl, refl),
+  (refl, refl, refl, refl, refl, refl),
+  (refl, refl, refl, refl, refl, refl),
+  (refl, refl, refl, refl, refl, refl),
+  (refl, refl, refl, refl, refl, refl),
+  (refl, refl, refl, refl, refl, refl),
+  λ code z.
+      row-none (baseType code) types (λ i.
+      elim (base-is code) [ inl e ↦ z (baseType code) i .0 e | inr e ↦ z (baseType code) i .1 e ]),
 )
+
+-- a code below 16384 is what it was before the other byte order came
+pub types-as-before : (code : ℕ) → code < 16384
+    → (widthOf code ≡ rowOf code types .width) × (kindOf code ≡ rowOf code types .kind) × (byteOrderOf code ≡ BigEndian)
+unfolding widthOf kindOf
+types-as-before code l =
+    let b = base-low code l in
+    (ap (λ k. rowOf k types .width) (b .0), ap (λ k. rowOf k types .kind) (b .0), b .1)
+
+-- and with 16384 added it is the same type, low byte first
+pub types-added : (code : ℕ) → code < 16384
+    → (widthOf (code + 16384) ≡ widthOf code) × (kindOf (code + 16384) ≡ kindOf code) × (byteOrderOf (code + 16384) ≡ LittleEndian)
+types-added code l = let b = same-added code l in (same-width _ code b, same-kind _ code b, base-added code .1)

@@ -4,7 +4,7 @@ use mathlib.Core.Path.{_≡_, refl, sym, _∙_}
 use mathlib.Core.List.{List}
 use lib.ListN.{length}
 use borrow.Author.Tests.{eq-eqb, ne-eqb, eqb-true, le-leb, lt-leb, leb-true}
-use Rattle.wire.specs.Numbers.{be, bytes, put}
+use Rattle.wire.specs.Numbers.{be, bytes, put, bytesIn}
 use Rattle.answer.proofs.Search.{must-holds, must-fails, passed, pass}
 use Rattle.wire.specs.Layouts.{read, extent, pack}
 use Rattle.records.specs.Dimensions.{dimensionFault, dimensionBytes, dimensionPackFault}
@@ -46,7 +46,7 @@ module _ (d : Dimension) where
   pack-sound h = leb-true (d .interlace) 2 (passed _ 14 0 h .0)
 
   pub length-dimension : length (dimensionBytes d) ≡ 20
-  unfolding dimensionBytes pack bytes
+  unfolding dimensionBytes pack bytesIn
   length-dimension = refl
 
   -- eight numbers written one after the other

@@ -4,7 +4,7 @@ use mathlib.Core.Path.{_≡_, refl, sym}
 use mathlib.Core.List.{List}
 use lib.ListN.{length}
 use borrow.Author.Tests.{eq-eqb, ne-eqb, eqb-true}
-use Rattle.wire.specs.Numbers.{bytes, put}
+use Rattle.wire.specs.Numbers.{bytes, put, bytesIn}
 use Rattle.answer.proofs.Search.{must-fails, passed, pass}
 use Rattle.wire.specs.Layouts.{extent, pack}
 use Rattle.records.specs.NumberTypes.{numberTypeFault, numberTypeBytes}
@@ -26,7 +26,7 @@ module _ (e : List ℕ) where
 
 module _ (x : NumberType) where
   pub length-number-type : length (numberTypeBytes x) ≡ 4
-  unfolding numberTypeBytes pack bytes
+  unfolding numberTypeBytes pack bytesIn
   length-number-type = refl
 
   -- four bytes written one after the other

@@ -1,15 +1,17 @@
--- Number types by their codes, a row of the table at a time. Assumes nothing.
-use Prim.Native.Nat.{ℕ, _≤_}
+-- Number types by their codes: 16384 taken off, then a row of the table at a time. Assumes nothing.
+use Prim.Native.Nat.{ℕ, _+_, _-_, _<_, _≤_}
 use native.Mathlib.Omega.{arith}
-use mathlib.Core.Path.{_≡_, refl, ap, _∙_}
-use mathlib.Core.Logic.{_↔_, inl, inr}
+use mathlib.Core.Path.{_≡_, refl, sym, ap, _∙_}
+use mathlib.Core.Logic.{_↔_, _⊎_, inl, inr}
 use mathlib.Core.List.{List, [], _∷_}
 use mathlib.Core.Bool.{true}
 use lib.Dec.{leb}
-use borrow.Author.Tests.{eq-eqb, ne-eqb, leb-true, le-leb}
+use borrow.Author.Tests.{eq-eqb, ne-eqb, leb-true, leb-false, le-leb, lt-leb}
 use Rattle.answer.specs.Search.{In}
-use Rattle.answer.proofs.Tests.{same?}
-use Rattle.records.specs.Types.{unsigned, TypeRow, types, rowOf, widthOf, kindOf, TypeIs, type-3, type-4, type-20, type-21, type-22, type-23, type-24, type-25, type-5, type-6, KnownType}
+use Rattle.answer.proofs.Tests.{test, same?}
+use Rattle.wire.specs.declared.ByteOrder.{ByteOrder}
+use Rattle.wire.specs.declared.ByteOrder.the-variants.{BigEndian, LittleEndian}
+use Rattle.records.specs.Types.{unsigned, TypeRow, types, rowOf, baseType, byteOrderOf, widthOf, kindOf, TypeIs, type-3, type-4, type-20, type-21, type-22, type-23, type-24, type-25, type-5, type-6, CodeIs, big-endian, little-endian, KnownType}
 
 -- ---- A table
 
@@ -45,13 +47,56 @@ unfolding rowOf
 row-none code [] h = refl
 row-none code (r ∷ rs) h = ap (λ x. x .width) (row-later code r rs (λ q. h (inl q))) ∙ row-none code rs (λ i. h (inr i))
 
+-- ---- 16384, taken off once
+
+pub base-high : (code : ℕ) → 16384 ≤ code → (baseType code ≡ code - 16384) × (byteOrderOf code ≡ LittleEndian)
+unfolding baseType byteOrderOf
+base-high code h = let t = le-leb 16384 code h in (rw (baseType, t), rw (byteOrderOf, t))
+
+pub base-low : (code : ℕ) → code < 16384 → (baseType code ≡ code) × (byteOrderOf code ≡ BigEndian)
+unfolding baseType byteOrderOf
+base-low code h = let t = lt-leb 16384 code h in (rw (baseType, t), rw (byteOrderOf, t))
+
+pub base-added : (code : ℕ) → (baseType (code + 16384) ≡ code) × (byteOrderOf (code + 16384) ≡ LittleEndian)
+base-added code = let b = base-high (code + 16384) (omega arith) in (b .0 ∙ omega arith, b .1)
+
+-- a code is its type's own, or that with 16384 added
+pub base-is : (code : ℕ) → (code ≡ baseType code) ⊎ (code ≡ baseType code + 16384)
+base-is code =
+    elim (test (leb 16384 code)) [
+      | inl h ↦ let l = leb-true 16384 code h in inr (omega (arith, base-high code l .0))
+      | inr h ↦ inl (sym (base-low code (leb-false 16384 code h) .0))
+    ]
+
+-- what depends on a code's type alone is the same where the type is
+pub same-width : (code other : ℕ) → baseType code ≡ baseType other → widthOf code ≡ widthOf other
+unfolding widthOf
+same-width code other e = ap (λ k. rowOf k types .width) e
+
+pub same-kind : (code other : ℕ) → baseType code ≡ baseType other → kindOf code ≡ kindOf other
+unfolding kindOf
+same-kind code other e = ap (λ k. rowOf k types .kind) e
+
+-- with 16384 added it is
+pub same-added : (code : ℕ) → code < 16384 → baseType (code + 16384) ≡ baseType code
+same-added code l = base-added code .0 ∙ sym (base-low code l .0)
+
+-- a type by its own code
+pub width-by : (code base own : ℕ) → base ≡ baseType code → base ≡ own → widthOf code ≡ rowOf own types .width
+unfolding widthOf
+width-by code base own is e = ap (λ k. rowOf k types .width) (sym is ∙ e)
+
+pub kind-by : (code base own : ℕ) → base ≡ baseType code → base ≡ own → kindOf code ≡ rowOf own types .kind
+unfolding kindOf
+kind-by code base own is e = ap (λ k. rowOf k types .kind) (sym is ∙ e)
+
 -- ---- The types: 3, 4, 20, 21, 22, 23, 24, 25, 5, 6, and every other
 
-pub width-unknown : (code : ℕ) → (code ≡ 3 → ⊥) → (code ≡ 4 → ⊥) → (code ≡ 20 → ⊥) → (code ≡ 21 → ⊥) → (code ≡ 22 → ⊥) → (code ≡ 23 → ⊥)
-    → (code ≡ 24 → ⊥) → (code ≡ 25 → ⊥) → (code ≡ 5 → ⊥) → (code ≡ 6 → ⊥) → widthOf code ≡ 0
-unfolding widthOf
-width-unknown code a b c d e f g h i j =
-    row-is (λ r. r .width ≡ 0) code types (
+pub width-unknown : (code base : ℕ) → base ≡ baseType code → (base ≡ 3 → ⊥) → (base ≡ 4 → ⊥) → (base ≡ 20 → ⊥) → (base ≡ 21 → ⊥) → (base ≡ 22 → ⊥)
+    → (base ≡ 23 → ⊥) → (base ≡ 24 → ⊥) → (base ≡ 25 → ⊥) → (base ≡ 5 → ⊥) → (base ≡ 6 → ⊥) → widthOf code ≡ 0
+width-unknown code base is a b c d e f g h i j =
+    width-by code base base is refl
+    ∙ row-is (λ r. r .width ≡ 0) base types (
       (λ q. absurd (a q)),
       (
         (λ q. absurd (b q)),
@@ -71,53 +116,29 @@ width-unknown code a b c d e f g h i j =
       ),
     )
 
-module _ (code : ℕ) (a : code ≡ 20 → ⊥) (b : code ≡ 22 → ⊥) (c : code ≡ 24 → ⊥) (d : code ≡ 5 → ⊥) (e : code ≡ 6 → ⊥) where
-  pub kind-unsigned : kindOf code ≡ unsigned
-  unfolding kindOf
-  kind-unsigned =
-      row-is (λ r. r .kind ≡ unsigned) code types (
+pub kind-unsigned : (code base : ℕ) → base ≡ baseType code → (base ≡ 20 → ⊥) → (base ≡ 22 → ⊥) → (base ≡ 24 → ⊥) → (base ≡ 5 → ⊥) → (base ≡ 6 → ⊥)
+    → kindOf code ≡ unsigned
+kind-unsigned code base is a b c d e =
+    kind-by code base base is refl
+    ∙ row-is (λ r. r .kind ≡ unsigned) base types (
+      (λ q. refl),
+      (
         (λ q. refl),
         (
-          (λ q. refl),
+          (λ q. absurd (a q)),
           (
-            (λ q. absurd (a q)),
+            (λ q. refl),
             (
-              (λ q. refl),
+              (λ q. absurd (b q)),
               (
-                (λ q. absurd (b q)),
-                (
-                  (λ q. refl),
-                  ((λ q. absurd (c q)), ((λ q. refl), ((λ q. absurd (d q)), ((λ q. absurd (e q)), refl)))),
-                ),
+                (λ q. refl),
+                ((λ q. absurd (c q)), ((λ q. refl), ((λ q. absurd (d q)), ((λ q. absurd (e q)), refl)))),
               ),
             ),
           ),
         ),
-      )
-
-  -- a type that is not signed and no float has 4 bytes, or 0, 1 or 2
-  pub width-four : (widthOf code ≡ 0 → ⊥) → (widthOf code ≡ 1 → ⊥) → (widthOf code ≡ 2 → ⊥) → widthOf code ≡ 4
-  unfolding widthOf
-  width-four =
-      row-is (λ r. (r .width ≡ 0 → ⊥) → (r .width ≡ 1 → ⊥) → (r .width ≡ 2 → ⊥) → r .width ≡ 4) code types (
-        (λ q x y z. absurd (y refl)),
-        (
-          (λ q x y z. absurd (y refl)),
-          (
-            (λ q. absurd (a q)),
-            (
-              (λ q x y z. absurd (y refl)),
-              (
-                (λ q. absurd (b q)),
-                (
-                  (λ q x y z. absurd (z refl)),
-                  ((λ q. absurd (c q)), ((λ q x y z. refl), ((λ q. absurd (d q)), ((λ q. absurd (e q)), (λ x y z. absurd (x refl)))))),
-                ),
-              ),
-            ),
-          ),
-        ),
-      )
+      ),
+    )
 
 -- ---- The types as facts
 
@@ -134,24 +155,23 @@ type-once type-5 type-5 = (refl, refl)
 type-once type-6 type-6 = (refl, refl)
 
 -- the table has them
-pub type-width : {code kind width : ℕ} → TypeIs code kind width → (widthOf code ≡ width) × (1 ≤ width)
-unfolding widthOf rowOf
-type-width type-3 = (refl, omega arith)
-type-width type-4 = (refl, omega arith)
-type-width type-20 = (refl, omega arith)
-type-width type-21 = (refl, omega arith)
-type-width type-22 = (refl, omega arith)
-type-width type-23 = (refl, omega arith)
-type-width type-24 = (refl, omega arith)
-type-width type-25 = (refl, omega arith)
-type-width type-5 = (refl, omega arith)
-type-width type-6 = (refl, omega arith)
+type-row : {code kind width : ℕ} → TypeIs code kind width → (rowOf code types .width ≡ width) × (1 ≤ width) × (code < 16384)
+unfolding rowOf
+type-row type-3 = (refl, omega arith, omega arith)
+type-row type-4 = (refl, omega arith, omega arith)
+type-row type-20 = (refl, omega arith, omega arith)
+type-row type-21 = (refl, omega arith, omega arith)
+type-row type-22 = (refl, omega arith, omega arith)
+type-row type-23 = (refl, omega arith, omega arith)
+type-row type-24 = (refl, omega arith, omega arith)
+type-row type-25 = (refl, omega arith, omega arith)
+type-row type-5 = (refl, omega arith, omega arith)
+type-row type-6 = (refl, omega arith, omega arith)
 
 -- and no others
-type-known : (code : ℕ) → 1 ≤ widthOf code → KnownType code
-unfolding widthOf
+type-known : (code : ℕ) → 1 ≤ rowOf code types .width → (kind : ℕ) × (width : ℕ) × TypeIs code kind width
 type-known code =
-    row-is (λ r. 1 ≤ r .width → KnownType code) code types (
+    row-is (λ r. 1 ≤ r .width → (kind : ℕ) × (width : ℕ) × TypeIs code kind width) code types (
       (λ q l. (2, 1, rw q type-3)),
       (
         (λ q l. (2, 1, rw q type-4)),
@@ -174,5 +194,44 @@ type-known code =
       ),
     )
 
+-- ---- The codes as facts
+
+pub code-once : {code kind width other also : ℕ} {order own : ByteOrder} → CodeIs code order kind width → CodeIs code own other also
+    → (order ≡ own) × (kind ≡ other) × (width ≡ also)
+code-once (big-endian t) (big-endian u) = let s = type-once t u in (refl, s .0, s .1)
+code-once (big-endian t) (little-endian e u) = absurd (omega (arith, type-row t .2))
+code-once (little-endian e t) (big-endian u) = absurd (omega (arith, type-row u .2))
+code-once (little-endian {base = b} e t) (little-endian {base = d} f u) =
+    let same : d ≡ b = omega arith in
+    let s = type-once t (rw same at u) in
+    (refl, s .0, s .1)
+
+pub code-is : {code kind width : ℕ} {order : ByteOrder} → CodeIs code order kind width → (widthOf code ≡ width) × (1 ≤ width) × (byteOrderOf code ≡ order)
+unfolding widthOf
+code-is {code} (big-endian t) = let r = type-row t in let b = base-low code (r .2) in (ap (λ k. rowOf k types .width) (b .0) ∙ r .0, r .1, b .1)
+code-is (little-endian {base = k} e t) =
+    let r = type-row t in let b = base-added k in
+    rw e (ap (λ k. rowOf k types .width) (b .0) ∙ r .0, r .1, b .1)
+
+-- a big-endian one is its type's own
+pub big-endian-low : {code kind width : ℕ} → CodeIs code BigEndian kind width → code < 16384
+big-endian-low (big-endian t) = type-row t .2
+
+-- a code by the facts of its type's own
+pub code-of : (code kind width : ℕ) → TypeIs (baseType code) kind width → CodeIs code (byteOrderOf code) kind width
+code-of code kind width t =
+    elim (test (leb 16384 code)) [
+      | inl h ↦
+          let high = leb-true 16384 code h in
+          let b = base-high code high in
+          let added : code ≡ baseType code + 16384 = omega (arith, b .0) in
+          rw (b .1) (little-endian added t)
+      | inr h ↦ let b = base-low code (leb-false 16384 code h) in rw (b .1) (big-endian (rw (b .0) at t))
+    ]
+
+code-known : (code : ℕ) → 1 ≤ widthOf code → KnownType code
+unfolding widthOf
+code-known code l = let t = type-known (baseType code) l in (byteOrderOf code, t .0, t .1, code-of code _ _ (t .2))
+
 pub known-is : (code : ℕ) → (leb 1 (widthOf code) ≡ true) ↔ KnownType code
-known-is code = ((λ b. type-known code (leb-true _ _ b)), (λ k. let w = type-width (k .2) in le-leb 1 (widthOf code) (rw (w .0) (w .1))))
+known-is code = ((λ b. code-known code (leb-true _ _ b)), (λ k. let w = code-is (k .3) in le-leb 1 (widthOf code) (rw (w .0) (w .1))))

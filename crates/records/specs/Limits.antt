@@ -1,4 +1,4 @@
--- Numbers that document 01 fixes for records, each named once: tags and limits. Assumes nothing.
+-- Numbers that the documents fix for records, each named once: tags, types and limits. Assumes nothing.
 use Prim.Native.Nat.{ℕ}
 
 -- ---- Tags
@@ -8,6 +8,12 @@ number-type-tag = 106
 
 abbrev pub array-tag : ℕ
 array-tag = 701
+
+-- ---- Types
+
+-- added to the code of a type whose values stand low byte first
+abbrev pub little-endian-types : ℕ
+little-endian-types = 16384
 
 -- ---- Limits
 

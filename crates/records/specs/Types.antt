@@ -1,8 +1,12 @@
--- Types of numbers in Vdatas and arrays, after document 01, "Records". Assumes nothing.
-use Prim.Native.Nat.{ℕ}
+-- Types of numbers in Vdatas and arrays, after document 01, "Records", in either byte order, after document 02, (xi). Assumes nothing.
+use Prim.Native.Nat.{ℕ, _+_, _-_}
+use mathlib.Core.Path.{_≡_}
 use mathlib.Core.List.{List, [], _∷_}
 use mathlib.Core.Bool.{true, false}
-use lib.Dec.{eqb}
+use lib.Dec.{eqb, leb}
+use Rattle.wire.specs.declared.ByteOrder.{ByteOrder}
+use Rattle.wire.specs.declared.ByteOrder.the-variants.{BigEndian, LittleEndian}
+use Rattle.records.specs.Limits.{little-endian-types}
 
 pub data Kind : Type 0 where
   signed : Kind
@@ -28,12 +32,19 @@ unfoldable pub rowOf : ℕ → List TypeRow → TypeRow
 rowOf code [] = row code 0 unsigned
 rowOf code (r ∷ rs) = elim (eqb code (r .code)) [ true ↦ r | false ↦ rowOf code rs ]
 
+-- a code with 16384 added is of the same type, low byte first: the type's own code, 16384 taken off once, and the byte order of its values
+unfoldable pub baseType : ℕ → ℕ
+baseType code = elim (leb little-endian-types code) [ true ↦ code - little-endian-types | false ↦ code ]
+
+unfoldable pub byteOrderOf : ℕ → ByteOrder
+byteOrderOf code = elim (leb little-endian-types code) [ true ↦ LittleEndian | false ↦ BigEndian ]
+
 -- how many bytes a value of the type has, 0 where the type is unknown; and its kind
 unfoldable pub widthOf : ℕ → ℕ
-widthOf code = rowOf code types .width
+widthOf code = rowOf (baseType code) types .width
 
 unfoldable pub kindOf : ℕ → Kind
-kindOf code = rowOf code types .kind
+kindOf code = rowOf (baseType code) types .kind
 
 -- ---- The same as facts
 
@@ -50,6 +61,11 @@ pub data TypeIs : ℕ → ℕ → ℕ → Type 0 where
   type-5 : TypeIs 5 3 4
   type-6 : TypeIs 6 4 8
 
--- it is one of them
+-- a code of one of them, and the byte order of its values: its own, or with 16384 added
+pub data CodeIs : ℕ → ByteOrder → ℕ → ℕ → Type 0 where
+  big-endian : {code kind width : ℕ} → TypeIs code kind width → CodeIs code BigEndian kind width
+  little-endian : {code base kind width : ℕ} → code ≡ base + 16384 → TypeIs base kind width → CodeIs code LittleEndian kind width
+
+-- it is such a code
 abbrev pub KnownType : ℕ → Type 0
-KnownType code = (kind : ℕ) × (width : ℕ) × TypeIs code kind width
+KnownType code = (order : ByteOrder) × (kind : ℕ) × (width : ℕ) × CodeIs code order kind width

@@ -14,7 +14,8 @@ use Rattle.answer.specs.Answer.{Answer}
 use Rattle.answer.specs.declared.Refusal.{Refusal}
 use Rattle.answer.proofs.Tests.{test, by-test, same?, zero?, in-append}
 use Rattle.wire.specs.Numbers.{part, Bytes}
-use Rattle.wire.proofs.Numbers.{be-small, length-part}
+use Rattle.wire.specs.declared.ByteOrder.the-variants.{BigEndian}
+use Rattle.wire.proofs.Numbers.{number-small, length-part}
 use Rattle.directory.specs.Limits.{lone-tag}
 use Rattle.directory.specs.Blocks.{slotCount, nextBlock}
 use Rattle.directory.specs.Slots.{tagAt, offsetAt, rows, slotsOf, baseTag, sizeAt, contentAt}
@@ -105,8 +106,8 @@ unfolding slotsAfter
 slots-between s bytes zero b p h i = absurd i
 slots-between s bytes (suc k) b p h i =
     elim (in-append p (rows (b + 6) (slotCount s b)) (slotsAfter s k (nextBlock s b)) i) [
-      | inl j ↦ let r = rows-between (b + 6) (slotCount s b) p j in omega (arith, be-small 2 s b bytes)
-      | inr j ↦ slots-between s bytes k (nextBlock s b) p (be-small 4 s (b + 2) bytes) j
+      | inl j ↦ let r = rows-between (b + 6) (slotCount s b) p j in omega (arith, number-small BigEndian 2 s b bytes)
+      | inr j ↦ slots-between s bytes k (nextBlock s b) p (number-small BigEndian 4 s (b + 2) bytes) j
     ]
 
 -- ---- The bytes of an element

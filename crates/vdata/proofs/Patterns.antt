@@ -1,5 +1,5 @@
--- Laws of the values of patterns: NaNs, signed numbers in 64 bits, types that are not signed and no floats, and the bits of a value. Assumes nothing.
-use Prim.Native.Nat.{ℕ, _<_, _≤_, _*_, _%_, zero, suc, _+_, _^_, _-_}
+-- Laws of the values of patterns: the pattern of a type's value, NaNs, signed numbers in 64 bits, and the bits of a value. Assumes nothing.
+use Prim.Native.Nat.{ℕ, _<_, _≤_, _*_, _%_, zero, suc, _+_, _^_, _-_, min}
 use native.Mathlib.Omega.{arith}
 use native.Mathlib.Nat.{mod-eq-of-lt, mul-suc, mul-add-mod-self-left}
 use mathlib.Core.Path.{_≡_, _∙_, refl, sym, ap, subst}
@@ -14,20 +14,37 @@ use lib.Signed.{mag}
 use mir.Syntax.{w64}
 use mir.Val.{SFits}
 use borrow.Author.Tests.{lt-ltb, le-ltb}
-use Rattle.wire.specs.Numbers.{be, Bytes}
-use Rattle.wire.proofs.Numbers.{be-small}
+use Rattle.wire.specs.Numbers.{numberIn, Bytes, ReadsIn}
+use Rattle.wire.specs.declared.ByteOrder.{ByteOrder}
+use Rattle.wire.proofs.Numbers.{number-small}
 use Rattle.answer.proofs.Tests.{test}
-use Rattle.records.specs.Types.{widthOf, signed, unsigned, float, TypeRow, types, rowOf}
-use Rattle.records.proofs.Types.{kind-unsigned, row-is}
+use Rattle.records.specs.Types.{baseType, byteOrderOf, widthOf, kindOf, signed, unsigned, float, TypeRow, types, rowOf}
+use Rattle.records.proofs.Types.{width-by, kind-by, kind-unsigned, row-is}
 use Rattle.vdata.specs.Patterns.{valueBy, valueAt, signedBy, float32, float64, valueKind, valueBits}
 use Rattle.vdata.specs.declared.value.Value.the-variants.{Unsigned}
 
--- ---- Types that are not signed and no floats
+-- ---- The value of a type
 
-module _ (code : ℕ) (a : code ≡ 20 → ⊥) (b : code ≡ 22 → ⊥) (c : code ≡ 24 → ⊥) (d : code ≡ 5 → ⊥) (e : code ≡ 6 → ⊥) where
-  pub value-unsigned : (width : ℕ) → widthOf code ≡ width → (v : List ℕ) (at : ℕ) → valueAt code v at ≡ Unsigned (be width v at)
+-- a number that was read in the type's width and byte order is the value's pattern
+pub pattern-read : (code width : ℕ) (byte-order : ByteOrder) (v : List ℕ) (at n : ℕ) → (width ≡ widthOf code) × (width ≤ 8) → byte-order ≡ byteOrderOf code
+    → ReadsIn byte-order (min width 8) v at n → ReadsIn (byteOrderOf code) (widthOf code) v at n
+pattern-read code width byte-order v at n w o r =
+    let k : min width 8 ≡ width = omega (arith, w .1) in
+    rw (← w .0, ← k, ← o) r
+
+module _ (code base : ℕ) (is : base ≡ baseType code) (v : List ℕ) (at n : ℕ) (r : ReadsIn (byteOrderOf code) (widthOf code) v at n) where
+  -- by the row of its own code
+  module _ (own : ℕ) (e : base ≡ own) where
+    pub pattern-small : n < 256 ^ rowOf own types .width
+    pattern-small = rw (← width-by code base own is e) (r .small)
+
+    pub row-value : valueBy (rowOf own types .kind) (rowOf own types .width) n ≡ valueAt code v at
+    unfolding valueAt
+    row-value = rw (r .is, kind-by code base own is e, width-by code base own is e)
+
+  pub value-unsigned : (base ≡ 20 → ⊥) → (base ≡ 22 → ⊥) → (base ≡ 24 → ⊥) → (base ≡ 5 → ⊥) → (base ≡ 6 → ⊥) → Unsigned n ≡ valueAt code v at
   unfolding valueAt valueBy
-  value-unsigned width w v at = rw (kind-unsigned code a b c d e, w)
+  value-unsigned a b c d e = rw (r .is, kind-unsigned code base is a b c d e)
 
 -- ---- Whether a pattern is a NaN's, by the test that the code makes
 
@@ -104,60 +121,57 @@ signed-bits n k times h whole =
         let a : 18446744073709551615 - (k - n) ≡ suc k * t + n = omega arith in
         ap (λ x. x % suc k) a ∙ mul-add-mod-self-left (suc k) t n ∙ mod-eq-of-lt h
 
--- what holds of a row of the table: whole bits, or the lower bytes of a signed number's
-abbrev pub Exact : List ℕ → ℕ → TypeRow → Type 0
-Exact v at r =
-    let n = be (r .width) v at in
-    (1 ≤ r .width → valueBits (valueBy (r .kind) (r .width) n) % 256 ^ r .width ≡ n)
-    × (1 ≤ r .width → (r .kind ≡ signed → ⊥) → valueBits (valueBy (r .kind) (r .width) n) ≡ n)
+-- what holds of the patterns of a row of the table: whole bits, or the lower bytes of a signed number's
+abbrev pub Exact : TypeRow → Type 0
+Exact r =
+    (n : ℕ) → n < 256 ^ r .width → 1 ≤ r .width
+    → let bits = valueBits (valueBy (r .kind) (r .width) n) in (bits % 256 ^ r .width ≡ n) × ((r .kind ≡ signed → ⊥) → bits ≡ n)
 
-module _ (v : List ℕ) (bytes : Bytes v) (at : ℕ) where
-  exact-unsigned : (code width : ℕ) → Exact v at (record { code = code; width = width; kind = unsigned })
-  unfolding valueBy
-  exact-unsigned code width = ((λ l. mod-eq-of-lt (be-small width v at bytes)), λ l z. refl)
+exact-unsigned : (code width : ℕ) → Exact (record { code = code; width = width; kind = unsigned })
+unfolding valueBy
+exact-unsigned code width n small l = (mod-eq-of-lt small, λ z. refl)
 
-  exact-signed : (code width k times : ℕ) → 256 ^ width ≡ suc k → suc k * times ≡ 18446744073709551616 → Exact v at (record { code = code; width = width; kind = signed })
-  unfolding valueBy
-  exact-signed code width k times e q =
-      let small : be width v at < suc k = subst (λ m. be width v at < m) e (be-small width v at bytes) in
-      ((λ l. ap (λ m. valueBits (signedBy (be width v at) m) % m) e ∙ signed-bits (be width v at) k times small q), λ l z. absurd (z refl))
+exact-signed : (code width k times : ℕ) → 256 ^ width ≡ suc k → suc k * times ≡ 18446744073709551616 → Exact (record { code = code; width = width; kind = signed })
+unfolding valueBy
+exact-signed code width k times e q n small l =
+    (ap (λ m. valueBits (signedBy n m) % m) e ∙ signed-bits n k times (subst (λ m. n < m) e small) q, λ z. absurd (z refl))
 
-  exact-float32 : (code : ℕ) → Exact v at (record { code = code; width = 4; kind = float })
-  unfolding valueBy
-  exact-float32 code =
-      let b = bits32 (be 4 v at) (be-small 4 v at bytes) in
-      ((λ l. ap (λ m. m % 4294967296) b ∙ mod-eq-of-lt (be-small 4 v at bytes)), λ l z. b)
+exact-float32 : (code : ℕ) → Exact (record { code = code; width = 4; kind = float })
+unfolding valueBy
+exact-float32 code n small l = let b = bits32 n small in (ap (λ m. m % 4294967296) b ∙ mod-eq-of-lt small, λ z. b)
 
-  exact-float64 : (code : ℕ) → Exact v at (record { code = code; width = 8; kind = float })
-  unfolding valueBy
-  exact-float64 code =
-      let b = bits64 (be 8 v at) (be-small 8 v at bytes) in
-      ((λ l. ap (λ m. m % 18446744073709551616) b ∙ mod-eq-of-lt (be-small 8 v at bytes)), λ l z. b)
+exact-float64 : (code : ℕ) → Exact (record { code = code; width = 8; kind = float })
+unfolding valueBy
+exact-float64 code n small l = let b = bits64 n small in (ap (λ m. m % 18446744073709551616) b ∙ mod-eq-of-lt small, λ z. b)
 
-  pub exact : (code : ℕ) → Exact v at (rowOf code types)
-  exact code =
-      row-is (Exact v at) code types (
-        (λ q. exact-unsigned 3 1),
+exact-row : (base : ℕ) → Exact (rowOf base types)
+exact-row base =
+    row-is Exact base types (
+      (λ q. exact-unsigned 3 1),
+      (
+        (λ q. exact-unsigned 4 1),
         (
-          (λ q. exact-unsigned 4 1),
+          (λ q. exact-signed 20 1 255 72057594037927936 refl refl),
           (
-            (λ q. exact-signed 20 1 255 72057594037927936 refl refl),
+            (λ q. exact-unsigned 21 1),
             (
-              (λ q. exact-unsigned 21 1),
+              (λ q. exact-signed 22 2 65535 281474976710656 refl refl),
               (
-                (λ q. exact-signed 22 2 65535 281474976710656 refl refl),
+                (λ q. exact-unsigned 23 2),
                 (
-                  (λ q. exact-unsigned 23 2),
-                  (
-                    (λ q. exact-signed 24 4 4294967295 4294967296 refl refl),
-                    (
-                      (λ q. exact-unsigned 25 4),
-                      ((λ q. exact-float32 5), ((λ q. exact-float64 6), exact-unsigned code 0)),
-                    ),
-                  ),
+                  (λ q. exact-signed 24 4 4294967295 4294967296 refl refl),
+                  ((λ q. exact-unsigned 25 4), ((λ q. exact-float32 5), ((λ q. exact-float64 6), exact-unsigned base 0))),
                 ),
               ),
             ),
           ),
         ),
-      )
+      ),
+    )
+
+-- of the value of a type among bytes
+module _ (code : ℕ) (known : 1 ≤ widthOf code) (v : List ℕ) (bytes : Bytes v) (at : ℕ) where
+  pub exact : let n = numberIn (byteOrderOf code) (widthOf code) v at in let bits = valueBits (valueAt code v at) in
+      (bits % 256 ^ widthOf code ≡ n) × ((kindOf code ≡ signed → ⊥) → bits ≡ n)
+  unfolding widthOf kindOf valueAt
+  exact = exact-row (baseType code) _ (number-small (byteOrderOf code) (widthOf code) v at bytes) known

@@ -10,15 +10,15 @@ use lib.ListN.{length, getD}
 use Rattle.answer.specs.Answer.{grant, refuse}
 use Rattle.answer.specs.Rules.{done, AllHold, FirstBroken}
 use Rattle.answer.proofs.Rules.{broken-then, first-then, then-broken, broken-below}
-use Rattle.wire.specs.Numbers.{be, Bytes}
+use Rattle.wire.specs.Numbers.{numberIn, bytesIn, part, Bytes}
+use Rattle.wire.proofs.Numbers.{bytes-mod, bytes-number}
 use Rattle.directory.specs.Opening.{openOf}
 use Rattle.directory.specs.Lookup.{find}
 use Rattle.directory.specs.Rules.{Unstored}
 use Rattle.directory.specs.Named.{Named, NamedUnstored}
 use Rattle.records.specs.Readings.{recordBytes}
 use Rattle.records.specs.RecordRules.{slotIn, plainRules, recordRules}
-use Rattle.records.specs.Types.{signed, widthOf, kindOf}
-use Rattle.records.proofs.Readings.{plain-bytes, content-bytes}
+use Rattle.records.specs.Types.{signed, byteOrderOf, widthOf, kindOf}
 use Rattle.records.proofs.RecordRules.{by-exactly, first-unstored, opened-unstored}
 use Rattle.vhead.specs.Limits.{head-tag}
 use Rattle.vhead.specs.Heads.{headIn, fieldAt}
@@ -29,22 +29,28 @@ use Rattle.vdata.specs.Patterns.{valueAt, valueKind, valueBits}
 use Rattle.vdata.specs.Limits.{values-tag}
 use Rattle.vdata.specs.Values.{placeOf, valueIn, valueOf}
 use Rattle.vdata.specs.ValueRules.{Indexed, ValueIs, Readable, indexRules, wholeRules, afterRules, valueRules}
-use Rattle.vdata.proofs.Values.{granted-readable, readable-granted}
+use Rattle.vdata.proofs.Values.{granted-readable, readable-granted, values-bytes}
 use Rattle.vdata.proofs.ValueRules.{lies-inside, facts-hold, value-once, value-by}
 use Rattle.vdata.proofs.Patterns.{exact}
 
 -- ---- Bits
 
-module _ (v : List ℕ) (bytes : Bytes v) (at : ℕ) where
-  -- a value's bits are the element's, for every type and every pattern: a signed number's in as many of its lower bytes as the type has
-  pub value-bits : (code : ℕ) → 1 ≤ widthOf code → valueBits (valueAt code v at) % 256 ^ widthOf code ≡ be (widthOf code) v at
-  unfolding widthOf kindOf valueAt
-  value-bits code l = exact v bytes at code .0 l
+-- of the value of a known type among bytes
+module _ (code : ℕ) (known : 1 ≤ widthOf code) (v : List ℕ) (bytes : Bytes v) (at : ℕ) where
+  -- its bits are the element's, in the type's byte order, for every type and every pattern: a signed number's in as many of its lower bytes as the
+  -- type has
+  pub value-bits : valueBits (valueAt code v at) % 256 ^ widthOf code ≡ numberIn (byteOrderOf code) (widthOf code) v at
+  value-bits = exact code known v bytes at .0
 
   -- and where it is no signed number, whole
-  pub value-bits-whole : (code : ℕ) → 1 ≤ widthOf code → (kindOf code ≡ signed → ⊥) → valueBits (valueAt code v at) ≡ be (widthOf code) v at
-  unfolding widthOf kindOf valueAt
-  value-bits-whole code l z = exact v bytes at code .1 l z
+  pub value-bits-whole : (kindOf code ≡ signed → ⊥) → valueBits (valueAt code v at) ≡ numberIn (byteOrderOf code) (widthOf code) v at
+  value-bits-whole = exact code known v bytes at .1
+
+  -- laid down in that order, they are the element's own bytes
+  pub value-bytes : at + widthOf code ≤ length v → bytesIn (byteOrderOf code) (widthOf code) (valueBits (valueAt code v at)) ≡ part v at (widthOf code)
+  value-bytes l =
+      sym (bytes-mod (byteOrderOf code) (widthOf code) (valueBits (valueAt code v at)))
+      ∙ ap (bytesIn (byteOrderOf code) (widthOf code)) value-bits ∙ bytes-number (byteOrderOf code) (widthOf code) v at bytes l
 
 -- ---- Where a value lies
 
@@ -112,8 +118,7 @@ module _ (s : List ℕ) (ref r i c kind bits : ℕ) (b : Bytes s) where
   answer-facts : Readable s ref r i c → let x = valueIn (recordBytes s (find s head-tag ref)) (recordBytes s (find s values-tag ref)) r i c in
       ValueIs (recordBytes s (find s 1962 ref)) (recordBytes s (find s 1963 ref)) r i c (valueKind x) (valueBits x)
   answer-facts x =
-      let own : Bytes (recordBytes s (find s values-tag ref)) = rw (plain-bytes s values-tag ref (x .values .slot) (x .values .found) (x .values .stored) (x .values .plain)) (content-bytes s (x .values .slot) b) in
-      facts-hold (recordBytes s (find s head-tag ref)) (x .sound) r i c (x .indexed) (recordBytes s (find s values-tag ref)) own (x .whole)
+      facts-hold (recordBytes s (find s head-tag ref)) (x .sound) r i c (x .indexed) (recordBytes s (find s values-tag ref)) (values-bytes s ref r i c b x) (x .whole)
 
   -- where it lies, and its kind and its bits by the bytes that stand there
   pub value-facts : valueOf s ref r i c ≡ grant (kind ∷ bits ∷ [])

@@ -1,5 +1,5 @@
--- Laws of a value as facts: the types by their table, its bits by its first byte, where it lies, and that the facts tell it. Assumes nothing.
-use Prim.Native.Nat.{ℕ, suc, _+_, _*_, _^_, _<_, _≤_}
+-- Laws of a value as facts: the types by their table, its bits by its most significant byte, where it lies, and that the facts tell it. Assumes nothing.
+use Prim.Native.Nat.{ℕ, suc, _+_, _*_, _-_, _^_, _<_, _≤_}
 use native.Mathlib.Nat.{mul-le-mul-right, pow-succ'}
 use native.Mathlib.Omega.{arith}
 use mathlib.Core.Path.{_≡_, refl, sym, ap, _∙_, subst}
@@ -10,12 +10,13 @@ use lib.Dec.{ltb}
 use borrow.Author.Tests.{ltb-true, ltb-false, lt-ltb, leb-true, le-leb}
 use Rattle.answer.specs.Search.{Hit}
 use Rattle.answer.proofs.Tests.{test, same?, zero?}
-use Rattle.wire.specs.Numbers.{be, Bytes}
+use Rattle.wire.specs.Numbers.{highAt, lowAt, numberIn, Bytes}
+use Rattle.wire.specs.declared.ByteOrder.{ByteOrder}
 use Rattle.directory.specs.Lookup.{find}
-use Rattle.wire.proofs.Numbers.{be-split, be-small, be-one}
-use Rattle.records.specs.Types.{signed, unsigned, float, TypeRow, types, rowOf, widthOf, kindOf, TypeIs, type-3, type-4, type-20, type-21, type-22, type-23, type-24, type-25, type-5, type-6}
+use Rattle.wire.proofs.Numbers.{number-split, number-small, number-one}
+use Rattle.records.specs.Types.{signed, unsigned, float, TypeRow, types, rowOf, baseType, byteOrderOf, widthOf, kindOf, TypeIs, type-3, type-4, type-20, type-21, type-22, type-23, type-24, type-25, type-5, type-6, CodeIs}
 use Rattle.records.specs.Readings.{recordBytes}
-use Rattle.records.proofs.Types.{row-is, type-once}
+use Rattle.records.proofs.Types.{row-is, code-of, code-once}
 use Rattle.records.proofs.RecordRules.{By, by-done, by-must, by-rest, by-plain, by-record}
 use Rattle.vhead.specs.Heads.{headFault, fieldAt, fieldsOf, fieldsFault}
 use Rattle.vhead.specs.HeadRules.{recordsOf, recordSizeOf, fieldCount, orderOf, headRules}
@@ -27,72 +28,83 @@ use Rattle.vhead.proofs.HeadRules.{by-head}
 use Rattle.vhead.proofs.HeadsJudged.{sound-typed, sound-sized}
 use Rattle.vdata.specs.Patterns.{signedBy, valueBy, valueAt, valueKind, valueBits}
 use Rattle.vdata.specs.Values.{indexFault, placeOf, valuesFault, valueIn, valueAfter, valueFound, valueOf}
-use Rattle.vdata.specs.ValueRules.{Indexed, LiesAt, BitsAre, ValueIs, afterRules, valueRules}
+use Rattle.vdata.specs.ValueRules.{Indexed, LiesAt, topByte, BitsAre, ValueIs, afterRules, valueRules}
 use Rattle.vdata.proofs.Patterns.{bits32, bits64, kind32, kind64, kind-signed, signed-low, signed-high}
 use Rattle.vdata.proofs.Values.{place-records, place-fields, lies}
 
--- ---- Bits by the first byte
+-- ---- Bits by the most significant byte
 
-module _ (v : List ℕ) (bytes : Bytes v) (at k : ℕ) where
-  by-first : be (1 + k) v at ≡ getD v at 0 * 256 ^ k + be k v (at + 1)
-  by-first = be-split 1 k v at ∙ ap (λ b. b * 256 ^ k + be k v (at + 1)) (be-one v at)
+module _ (byte-order : ByteOrder) (v : List ℕ) (bytes : Bytes v) (at k : ℕ) where
+  abbrev top : ℕ
+  top = getD v (highAt byte-order k at) 0
+
+  abbrev rest : ℕ
+  rest = numberIn byte-order k v (lowAt byte-order 1 at)
+
+  by-top : numberIn byte-order (1 + k) v at ≡ top * 256 ^ k + rest
+  by-top = number-split byte-order 1 k v at ∙ ap (λ b. b * 256 ^ k + rest) (number-one byte-order v (highAt byte-order k at))
 
   byte-more : 256 ^ (1 + k) ≡ 256 * 256 ^ k
   byte-more = let z : 1 + k ≡ suc k = omega arith in ap (λ j. 256 ^ j) z ∙ pow-succ' 256 k
 
   -- below 128 the pattern is in the lower half of all, from there on in the upper one
-  low-half : getD v at 0 < 128 → 2 * be (1 + k) v at < 256 ^ (1 + k)
+  low-half : top < 128 → 2 * numberIn byte-order (1 + k) v at < 256 ^ (1 + k)
   low-half h =
-      let most : getD v at 0 * 256 ^ k ≤ 127 * 256 ^ k = mul-le-mul-right (256 ^ k) (omega arith) in
-      omega (arith, by-first, byte-more, be-small k v (at + 1) bytes)
+      let most : top * 256 ^ k ≤ 127 * 256 ^ k = mul-le-mul-right (256 ^ k) (omega arith) in
+      omega (arith, by-top, byte-more, number-small byte-order k v (lowAt byte-order 1 at) bytes)
 
-  high-half : 128 ≤ getD v at 0 → 256 ^ (1 + k) ≤ 2 * be (1 + k) v at
+  high-half : 128 ≤ top → 256 ^ (1 + k) ≤ 2 * numberIn byte-order (1 + k) v at
   high-half h =
-      let least : 128 * 256 ^ k ≤ getD v at 0 * 256 ^ k = mul-le-mul-right (256 ^ k) h in
-      omega (arith, by-first, byte-more)
+      let least : 128 * 256 ^ k ≤ top * 256 ^ k = mul-le-mul-right (256 ^ k) h in
+      omega (arith, by-top, byte-more)
 
   bits-signed : (m : ℕ) → 256 ^ (1 + k) ≡ suc m → m < 18446744073709551616
-      → BitsAre 1 (1 + k) v at (valueBits (signedBy (be (1 + k) v at) (256 ^ (1 + k))))
+      → BitsAre byte-order 1 (1 + k) v at (valueBits (signedBy (numberIn byte-order (1 + k) v at) (256 ^ (1 + k))))
   bits-signed m whole small =
-      let n = be (1 + k) v at in
+      let n = numberIn byte-order (1 + k) v at in
+      let others : 1 + k - 1 ≡ k = omega arith in
+      let is : topByte byte-order (1 + k) v at ≡ top = ap (λ j. getD v (highAt byte-order j at) 0) others in
       record {
         exact = λ z. absurd (z refl);
-        positive = λ q h. signed-low n (256 ^ (1 + k)) (low-half h);
+        positive = λ q h. signed-low n (256 ^ (1 + k)) (low-half (omega (arith, is, h)));
         negative = λ q h.
-            let inside : n < suc m = omega (arith, be-small (1 + k) v at bytes) in
-            let upper : suc m ≤ 2 * n = omega (arith, high-half h) in
+            let inside : n < suc m = omega (arith, number-small byte-order (1 + k) v at bytes) in
+            let upper : suc m ≤ 2 * n = omega (arith, high-half (omega (arith, is, h))) in
             rw whole (signed-high n m inside upper small);
       }
 
-bits-exact : (kind width : ℕ) (v : List ℕ) (at bits : ℕ) → (kind ≡ 1 → ⊥) → bits ≡ be width v at → BitsAre kind width v at bits
-bits-exact kind width v at bits z e = record { exact = λ q. e; positive = λ q. absurd (z q); negative = λ q. absurd (z q) }
-
 -- ---- Types
 
-module _ (v : List ℕ) (bytes : Bytes v) (at : ℕ) where
+module _ (byte-order : ByteOrder) (v : List ℕ) (bytes : Bytes v) (at : ℕ) where
+  bits-exact : (kind width bits : ℕ) → (kind ≡ 1 → ⊥) → bits ≡ numberIn byte-order width v at → BitsAre byte-order kind width v at bits
+  bits-exact kind width bits z e = record { exact = λ q. e; positive = λ q. absurd (z q); negative = λ q. absurd (z q) }
+
+  abbrev pattern : ℕ → ℕ
+  pattern width = numberIn byte-order width v at
+
   -- a value by a row of the table has the kind, the width and the bits of its type
   abbrev Told : ℕ → TypeRow → Type 0
   Told code r =
-      let x = valueBy (r .kind) (r .width) (be (r .width) v at) in
-      1 ≤ r .width → TypeIs code (valueKind x) (r .width) × BitsAre (valueKind x) (r .width) v at (valueBits x)
+      let x = valueBy (r .kind) (r .width) (pattern (r .width)) in
+      1 ≤ r .width → TypeIs code (valueKind x) (r .width) × BitsAre byte-order (valueKind x) (r .width) v at (valueBits x)
 
   module _ (code own : ℕ) where
     told-unsigned : (width : ℕ) → TypeIs code 2 width → Told code (record { code = own; width = width; kind = unsigned })
     unfolding valueBy
-    told-unsigned width t l = (t, bits-exact 2 width v at _ (λ z. omega arith) refl)
+    told-unsigned width t l = (t, bits-exact 2 width _ (λ z. omega arith) refl)
 
     told-signed : (k m : ℕ) → TypeIs code 1 (1 + k) → 256 ^ (1 + k) ≡ suc m → m < 18446744073709551616
         → Told code (record { code = own; width = 1 + k; kind = signed })
     unfolding valueBy
-    told-signed k m t whole small l = rw (kind-signed (be (1 + k) v at) (256 ^ (1 + k))) (t, bits-signed v bytes at k m whole small)
+    told-signed k m t whole small l = rw (kind-signed (pattern (1 + k)) (256 ^ (1 + k))) (t, bits-signed byte-order v bytes at k m whole small)
 
     told-float32 : TypeIs code 3 4 → Told code (record { code = own; width = 4; kind = float })
     unfolding valueBy
-    told-float32 t l = rw (kind32 (be 4 v at)) (t, bits-exact 3 4 v at _ (λ z. omega arith) (bits32 (be 4 v at) (be-small 4 v at bytes)))
+    told-float32 t l = rw (kind32 (pattern 4)) (t, bits-exact 3 4 _ (λ z. omega arith) (bits32 (pattern 4) (number-small byte-order 4 v at bytes)))
 
     told-float64 : TypeIs code 4 8 → Told code (record { code = own; width = 8; kind = float })
     unfolding valueBy
-    told-float64 t l = rw (kind64 (be 8 v at)) (t, bits-exact 4 8 v at _ (λ z. omega arith) (bits64 (be 8 v at) (be-small 8 v at bytes)))
+    told-float64 t l = rw (kind64 (pattern 8)) (t, bits-exact 4 8 _ (λ z. omega arith) (bits64 (pattern 8) (number-small byte-order 8 v at bytes)))
 
   told : (code : ℕ) → Told code (rowOf code types)
   told code =
@@ -122,10 +134,13 @@ module _ (v : List ℕ) (bytes : Bytes v) (at : ℕ) where
         ),
       )
 
-  value-told : (code : ℕ) → 1 ≤ widthOf code → let x = valueAt code v at in
-      TypeIs code (valueKind x) (widthOf code) × BitsAre (valueKind x) (widthOf code) v at (valueBits x)
-  unfolding widthOf kindOf valueAt
-  value-told code l = told code l
+-- by a code
+value-told : (v : List ℕ) → Bytes v → (at code : ℕ) → 1 ≤ widthOf code → let x = valueAt code v at in
+    CodeIs code (byteOrderOf code) (valueKind x) (widthOf code) × BitsAre (byteOrderOf code) (valueKind x) (widthOf code) v at (valueBits x)
+unfolding widthOf kindOf valueAt
+value-told v bytes at code l =
+    let t = told (byteOrderOf code) v bytes at (baseType code) l in
+    (code-of code _ (widthOf code) (t .0), t .1)
 
 -- ---- A value in the bytes of a head that breaks no rule
 
@@ -144,52 +159,61 @@ module _ (e : List ℕ) (sound : headFault e ≡ 0) (r i c : ℕ) (there : Index
   lies-inside =
       lies h f r c (sound-sized (h .«record_size») (fieldAt e h) (h .fields) i fields-sound (there .field-there)) (there .record-there) (there .component-there)
 
+  pub lies-there : LiesAt e r i c (widthOf (f .code)) (placeOf h f r c)
+  lies-there =
+      let interlace : h .interlace ≤ 1 = rw head-is at (head-passed e sound .interlace) in
+      elim (zero? (h .interlace)) [
+        | inl z ↦ inl (z, sym (place-records h f r c z))
+        | inr m ↦ inr (omega (arith, m .1), sym (place-fields h f r c (λ z. omega (arith, m .1))))
+      ]
+
+  pub type-known : 1 ≤ widthOf (f .code)
+  type-known = sound-typed (h .«record_size») (fieldAt e h) (h .fields) i fields-sound (there .field-there)
+
   pub facts-hold : (v : List ℕ) → Bytes v → recordsOf e * recordSizeOf e ≤ length v
       → let x = valueIn e v r i c in ValueIs e v r i c (valueKind x) (valueBits x)
   unfolding valueIn
   facts-hold v bytes whole =
-      let interlace : h .interlace ≤ 1 = rw head-is at (head-passed e sound .interlace) in
-      let known = sound-typed (h .«record_size») (fieldAt e h) (h .fields) i fields-sound (there .field-there) in
-      let t = value-told v bytes (placeOf h f r c) (f .code) known in
+      let t = value-told v bytes (placeOf h f r c) (f .code) type-known in
       rw (head-is e) (record {
+        byte-order = byteOrderOf (f .code);
         width = widthOf (f .code);
         place = placeOf h f r c;
         indexed = there;
         type-is = t .0;
-        lies =
-            elim (zero? (h .interlace)) [
-              | inl z ↦ inl (z, sym (place-records h f r c z))
-              | inr m ↦ inr (omega (arith, m .1), sym (place-fields h f r c (λ z. omega (arith, m .1))))
-            ];
+        lies = lies-there;
         inside = omega (arith, lies-inside);
         bits-are = t .1;
       })
 
 -- ---- The facts tell the value
 
-lies-once : (e : List ℕ) (r i c width at also : ℕ) → LiesAt e r i c width at → LiesAt e r i c width also → at ≡ also
+pub lies-once : (e : List ℕ) (r i c width at also : ℕ) → LiesAt e r i c width at → LiesAt e r i c width also → at ≡ also
 lies-once e r i c width at also (inl x) (inl y) = x .1 ∙ sym (y .1)
 lies-once e r i c width at also (inl x) (inr y) = absurd (omega (arith, x .0, y .0))
 lies-once e r i c width at also (inr x) (inl y) = absurd (omega (arith, x .0, y .0))
 lies-once e r i c width at also (inr x) (inr y) = x .1 ∙ sym (y .1)
 
-bits-once : (kind width : ℕ) (v : List ℕ) (at bits also : ℕ) → BitsAre kind width v at bits → BitsAre kind width v at also → bits ≡ also
-bits-once kind width v at bits also x y =
+bits-once : (byte-order : ByteOrder) (kind width : ℕ) (v : List ℕ) (at bits also : ℕ) → BitsAre byte-order kind width v at bits
+    → BitsAre byte-order kind width v at also → bits ≡ also
+bits-once byte-order kind width v at bits also x y =
     elim (same? kind 1) [
       | inr z ↦ x .exact z ∙ sym (y .exact z)
-      | inl q ↦ elim (test (ltb (getD v at 0) 128)) [
+      | inl q ↦ elim (test (ltb (topByte byte-order width v at) 128)) [
         | inl l ↦ let h = ltb-true _ _ l in x .positive q h ∙ sym (y .positive q h)
-        | inr l ↦ let h : 128 ≤ getD v at 0 = ltb-false _ _ l in omega (arith, x .negative q h, y .negative q h)
+        | inr l ↦ let h : 128 ≤ topByte byte-order width v at = ltb-false _ _ l in omega (arith, x .negative q h, y .negative q h)
       ]
     ]
 
 pub value-once : (e v : List ℕ) (r i c kind bits other also : ℕ) → ValueIs e v r i c kind bits → ValueIs e v r i c other also → (kind ≡ other) × (bits ≡ also)
 value-once e v r i c kind bits other also x y =
-    let t = type-once (x .type-is) (y .type-is) in
-    let w : y .width ≡ x .width = sym (t .1) in
+    let t = code-once (x .type-is) (y .type-is) in
+    let o : y .byte-order ≡ x .byte-order = sym (t .0) in
+    let w : y .width ≡ x .width = sym (t .2) in
     let place : y .place ≡ x .place = sym (lies-once e r i c (x .width) (x .place) (y .place) (x .lies) (rw w at (y .lies))) in
-    let same : BitsAre kind (x .width) v (x .place) also = subst (λ k. BitsAre k (x .width) v (x .place) also) (sym (t .0)) (rw (w, place) at (y .bits-are)) in
-    (t .0, bits-once kind (x .width) v (x .place) bits also (x .bits-are) same)
+    let same : BitsAre (x .byte-order) kind (x .width) v (x .place) also =
+    subst (λ k. BitsAre (x .byte-order) k (x .width) v (x .place) also) (sym (t .1)) (rw (o, w, place) at (y .bits-are)) in
+    (t .1, bits-once (x .byte-order) kind (x .width) v (x .place) bits also (x .bits-are) same)
 
 -- ---- A value goes by its rules
 

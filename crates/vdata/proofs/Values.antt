@@ -16,7 +16,8 @@ use Rattle.answer.proofs.Tests.{zero?}
 use Rattle.answer.proofs.Search.{must-holds, must-fails, passed}
 use Rattle.answer.proofs.Answer.{refusal-is, unless-passes, unless-stops, unless-passed}
 use Rattle.wire.specs.Numbers.{part, Bytes}
-use Rattle.wire.proofs.Numbers.{be-small}
+use Rattle.wire.specs.declared.ByteOrder.the-variants.{BigEndian}
+use Rattle.wire.proofs.Numbers.{number-small}
 use Rattle.directory.specs.Slots.{contentAt}
 use Rattle.directory.specs.Opening.{opened}
 use Rattle.directory.specs.Lookup.{find, findIn}
@@ -27,7 +28,7 @@ use Rattle.storage.specs.declared.element.Located.{Located}
 use Rattle.storage.specs.declared.element.Located.the-variants as located
 use Rattle.records.specs.Types.{widthOf}
 use Rattle.records.specs.Readings.{recordAt, recordBytes}
-use Rattle.records.proofs.Readings.{reads-refusal, reads-broken, reads-passed, reads-bytes, plain-bytes, content-passes, record-granted}
+use Rattle.records.proofs.Readings.{reads-refusal, reads-broken, reads-passed, reads-bytes, plain-bytes, content-bytes, content-passes, record-granted}
 use Rattle.vhead.specs.Limits.{head-tag}
 use Rattle.vhead.specs.Heads.{headIn, headFault, fieldAt}
 use Rattle.vhead.specs.HeadRules.{recordsOf, recordSizeOf}
@@ -85,7 +86,7 @@ module _ (e : List ℕ) (h : Head) (is : h ≡ headIn e) where
   same-fault r i c n q = q ∙ ap (λ k. indexFault k (fieldAt e k i) r i c) is
 
   pub head-small : Bytes e → (h .records < 4294967296) × (h .«record_size» < 65536)
-  head-small bytes = rw (is, head-is) (be-small 4 e 2 bytes, be-small 2 e 6 bytes)
+  head-small bytes = rw (is, head-is) (number-small BigEndian 4 e 2 bytes, number-small BigEndian 2 e 6 bytes)
 
   pub value-is : (f : Numbers) (i : ℕ) → f ≡ fieldAt e (headIn e) i → (v w : List ℕ) → w ≡ v → (r c at : ℕ) → at ≡ placeOf h f r c
       → (x : Value) → x ≡ valueAt (f .code) w at → x ≡ valueIn e v r i c
@@ -300,3 +301,9 @@ readable-granted s ref r i c x =
     g .answers ∙ ap (λ b. valueAfter s b values r i c) (sym head-bytes)
     ∙ unless-passes 2 _ 0 _ (there-indices e r i c (x .indexed))
     ∙ sym (opened-goes 2 s _ (x .opens)) ∙ w .answers ∙ ap (given s e values r i c 0) (sym value-bytes)
+
+-- the element of the values is bytes where the image is
+pub values-bytes : (s : List ℕ) (ref r i c : ℕ) → Bytes s → Readable s ref r i c → Bytes (recordBytes s (find s values-tag ref))
+values-bytes s ref r i c b x =
+    let v = x .values in
+    rw (plain-bytes s values-tag ref (v .slot) (v .found) (v .stored) (v .plain)) (content-bytes s (v .slot) b)

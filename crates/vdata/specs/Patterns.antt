@@ -1,12 +1,13 @@
--- The values of the patterns of Vdata fields, by their number types, after document 01, "Records". Assumes nothing.
+-- The values of the patterns of Vdata fields, by their number types, after document 01, "Records", in either byte order, after document 02, (xi).
+-- Assumes nothing.
 use Prim.Native.Nat.{ℕ, _*_, _-_, _^_}
 use mathlib.Core.List.{List}
 use mathlib.Core.Bool.{true, false}
 use lib.Dec.{eqb, ltb}
 use lib.IntN.{ℤ, pos, negsuc, _-ℤ_}
 use lib.Ieee.{binary32, binary64, ofBits, toBits, nanBits}
-use Rattle.wire.specs.Numbers.{be}
-use Rattle.records.specs.Types.{Kind, signed, unsigned, float, widthOf, kindOf}
+use Rattle.wire.specs.Numbers.{numberIn}
+use Rattle.records.specs.Types.{Kind, signed, unsigned, float, byteOrderOf, widthOf, kindOf}
 use Rattle.vdata.specs.declared.value.Value.{Value}
 use Rattle.vdata.specs.declared.value.Value.the-variants.{Signed, Unsigned, Float32, Float64, Nan32, Nan64}
 
@@ -27,9 +28,9 @@ valueBy signed width n = signedBy n (256 ^ width)
 valueBy unsigned width n = Unsigned n
 valueBy float width n = elim (eqb width 8) [ true ↦ float64 n | false ↦ float32 n ]
 
--- the value of a type at a place
+-- the value of a type at a place: its pattern is the number in its bytes, in its byte order
 unfoldable pub valueAt : ℕ → List ℕ → ℕ → Value
-valueAt code e at = valueBy (kindOf code) (widthOf code) (be (widthOf code) e at)
+valueAt code e at = valueBy (kindOf code) (widthOf code) (numberIn (byteOrderOf code) (widthOf code) e at)
 
 -- 1 a signed number, 2 an unsigned one, 3 a float of 32 bits, 4 one of 64
 abbrev pub valueKind : Value → ℕ

@@ -1,6 +1,6 @@
--- A value of a Vdata as facts about the bytes of its head and of its values, after document 01, "Records". The numbers are the paper's own.
--- Assumes nothing.
-use Prim.Native.Nat.{ℕ, _+_, _*_, _^_, _<_, _≤_}
+-- A value of a Vdata as facts about the bytes of its head and of its values, after document 01, "Records", and document 02, (xi). The
+-- numbers are the papers' own. Assumes nothing.
+use Prim.Native.Nat.{ℕ, _+_, _*_, _-_, _^_, _<_, _≤_}
 use mathlib.Core.Path.{_≡_}
 use mathlib.Core.Logic.{_⊎_}
 use mathlib.Core.Bool.{false}
@@ -8,14 +8,15 @@ use mathlib.Core.List.{List}
 use lib.ListN.{length, getD}
 use Rattle.answer.specs.Search.{Hit, hit}
 use Rattle.answer.specs.Rules.{Rules, done, rule, followed}
-use Rattle.wire.specs.Numbers.{be}
+use Rattle.wire.specs.Numbers.{highAt, numberIn}
+use Rattle.wire.specs.declared.ByteOrder.{ByteOrder}
 use Rattle.directory.specs.Opening.{openOf}
 use Rattle.directory.specs.Rules.{IsStored}
 use Rattle.directory.specs.Lookup.{find}
 use Rattle.storage.specs.Elements.{extendedAt}
 use Rattle.records.specs.Readings.{recordBytes}
 use Rattle.records.specs.RecordRules.{slotIn, plainRules, recordRules}
-use Rattle.records.specs.Types.{TypeIs}
+use Rattle.records.specs.Types.{CodeIs}
 use Rattle.vhead.specs.Heads.{headFault}
 use Rattle.vhead.specs.HeadRules.{interlaceOf, recordsOf, recordSizeOf, fieldCount, typeOf, sizeOf, offsetOf, orderOf, headRules}
 
@@ -33,22 +34,27 @@ LiesAt e r i c width at =
     ((interlaceOf e ≡ 0) × (at ≡ r * recordSizeOf e + offsetOf e i + c * width))
     ⊎ ((interlaceOf e ≡ 1) × (at ≡ recordsOf e * offsetOf e i + r * sizeOf e i + c * width))
 
--- the bits of a value whose bytes stand in v from a place on: a signed number's in 64 bits of two's complement, negative where its first
--- byte is 128 or more; of every other kind the number that the bytes are
-pub record BitsAre (kind width : ℕ) (v : List ℕ) (at bits : ℕ) : Type 0 where
-  pub exact : (kind ≡ 1 → ⊥) → bits ≡ be width v at
-  pub positive : kind ≡ 1 → getD v at 0 < 128 → bits ≡ be width v at
-  pub negative : kind ≡ 1 → 128 ≤ getD v at 0 → bits + 256 ^ width ≡ be width v at + 18446744073709551616
+-- the most significant byte of a number of so many bytes
+abbrev pub topByte : ByteOrder → ℕ → List ℕ → ℕ → ℕ
+topByte byte-order width v at = getD v (highAt byte-order (width - 1) at) 0
+
+-- the bits of a value whose bytes stand in v from a place on: a signed number's in 64 bits of two's complement, negative where its most
+-- significant byte is 128 or more; of every other kind the number that the bytes are
+pub record BitsAre (byte-order : ByteOrder) (kind width : ℕ) (v : List ℕ) (at bits : ℕ) : Type 0 where
+  pub exact : (kind ≡ 1 → ⊥) → bits ≡ numberIn byte-order width v at
+  pub positive : kind ≡ 1 → topByte byte-order width v at < 128 → bits ≡ numberIn byte-order width v at
+  pub negative : kind ≡ 1 → 128 ≤ topByte byte-order width v at → bits + 256 ^ width ≡ numberIn byte-order width v at + 18446744073709551616
 
 -- a value's kind and bits, by the bytes e of the head and v of the values
 pub record ValueIs (e v : List ℕ) (r i c kind bits : ℕ) : Type 0 where
+  pub byte-order : ByteOrder
   pub width : ℕ
   pub place : ℕ
   pub indexed : Indexed e r i c
-  pub type-is : TypeIs (typeOf e i) kind width
+  pub type-is : CodeIs (typeOf e i) byte-order kind width
   pub lies : LiesAt e r i c width place
   pub inside : place + width ≤ length v
-  pub bits-are : BitsAre kind width v place bits
+  pub bits-are : BitsAre byte-order kind width v place bits
 
 -- ---- Which values are given
 

@@ -4,7 +4,7 @@ use answer::Refusal;
 use answer::refusals::NO_VALUE;
 use answer::refusals::RECORD;
 use directory::Opened;
-use records::scalar::width;
+use records::scalar;
 use storage::element;
 use storage::element::Located;
 use vhead::field::Numbers;
@@ -13,8 +13,10 @@ use vhead::head;
 use vhead::head::Head;
 ghost use mathlib.Core.Path.{_≡_};
 ghost use Prim.Native.Nat.{_*_, _≤_, _<_};
+ghost use Rattle.wire.specs.Numbers.{ReadsIn};
 ghost use Rattle.directory.specs.Lookup.{find, findIn};
 ghost use Rattle.records.specs.Readings.{recordBytes};
+ghost use Rattle.records.specs.Types as Types;
 ghost use Rattle.vhead.specs.Heads as Heads;
 ghost use Rattle.vhead.specs.Steps as Steps;
 ghost use Rattle.vhead.specs.Limits.{head-tag};
@@ -71,36 +73,35 @@ fn float64(n: usize) -> Value
     Value::Float64(f64::from_bits(bits))
 }
 
+// The pattern of a type's value at a place of the values: the number in its bytes, in the type's byte order.
+fn pattern(code: usize, part: &[u8], at: usize) -> usize
+    ensures { λ r. ⌜ ReadsIn (Types.byteOrderOf code) (Types.widthOf code) (now (part .entry)) at r ⌝ }
+{
+    wire::read_number(part, at, scalar::width(code), scalar::byte_order(code))
+}
+
 // The value of a type at a place of the values.
 fn value_at(code: usize, part: &[u8], at: usize) -> Value
     ensures { λ r. ⌜ r ≡ Patterns.valueAt code (now (part .entry)) at ⌝ }
 {
-    if code == 20 {
-        return signed(wire::read8(part, at), 128);
+    let n = pattern(code, part, at);
+    let base = scalar::base_type(code);
+    if base == 20 {
+        return signed(n, 128);
     }
-    if code == 22 {
-        return signed(wire::read16(part, at), 32768);
+    if base == 22 {
+        return signed(n, 32768);
     }
-    if code == 24 {
-        return signed(wire::read32(part, at), 2147483648);
+    if base == 24 {
+        return signed(n, 2147483648);
     }
-    if code == 5 {
-        return float32(wire::read32(part, at));
+    if base == 5 {
+        return float32(n);
     }
-    if code == 6 {
-        return float64(wire::read64(part, at));
+    if base == 6 {
+        return float64(n);
     }
-    let bytes = width(code);
-    if bytes == 0 {
-        return Value::Unsigned(0);
-    }
-    if bytes == 1 {
-        return Value::Unsigned(wire::read8(part, at) as u64);
-    }
-    if bytes == 2 {
-        return Value::Unsigned(wire::read16(part, at) as u64);
-    }
-    Value::Unsigned(wire::read32(part, at) as u64)
+    Value::Unsigned(n as u64)
 }
 
 // The number of the rule that the indices of a record, a field and a component break, 0 where they break none.
@@ -127,7 +128,7 @@ fn place(h: Head, f: Numbers, record: usize, component: usize) -> usize
         × («record» < h .records) × (component < f .order) ⌝ }
     ensures { λ r. ⌜ r ≡ Values.placeOf h f «record» component ⌝ }
 {
-    let width = width(f.code);
+    let width = scalar::width(f.code);
     if h.interlace == 0 {
         return record * h.record_size + f.offset + component * width;
     }

@@ -8,7 +8,8 @@ use lib.Seq.{sets}
 use lib.Dec.{leb, eqb}
 use borrow.Author.Tests.{leb-true, le-leb, lt-leb, eqb-true, eq-eqb, ne-eqb}
 use Rattle.wire.specs.Numbers.{be, bytes, put, part, Bytes, Reads}
-use Rattle.wire.proofs.Numbers.{be-small, length-bytes}
+use Rattle.wire.specs.declared.ByteOrder.the-variants.{BigEndian}
+use Rattle.wire.proofs.Numbers.{number-small, length-bytes}
 use Rattle.answer.specs.Answer.{grant, refuse, refusal, Answer, inRoom}
 use Rattle.answer.specs.Refusals.{SMALL, RECORD}
 use Rattle.directory.specs.Limits.{most-bytes}
@@ -68,7 +69,7 @@ members-inside e = omega arith
 
 pub members-few : (e : List ℕ) → Bytes e → groupIn e .members < 65536
 unfolding read
-members-few e b = be-small 2 e 0 b
+members-few e b = number-small BigEndian 2 e 0 b
 
 -- ---- Its rules
 
@@ -231,7 +232,7 @@ module _ (members name class : List ℕ) (x : Ending) (named : Bytes name) (clas
       rw (ed, ec, eb, ea, pack-tail (λ t. t) name class x (2 + 4 * n) named classed, group-bytes)
       (put-follows _ _ _ _ _ (omega (arith, length-column members 1))
       ∙ put-follows _ _ _ _ _ (omega (arith, length-column members 0))
-      ∙ put-follows _ _ _ _ _ (omega (arith, length-bytes 2 n)))
+      ∙ put-follows _ _ _ _ _ (omega (arith, length-bytes BigEndian 2 n)))
 
 -- ---- Name and class lie inside the image
 

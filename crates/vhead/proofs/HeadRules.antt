@@ -18,7 +18,7 @@ use Rattle.answer.proofs.Rules.{Below}
 use Rattle.wire.specs.Layouts.{extent}
 use Rattle.records.specs.Types.{widthOf, KnownType}
 use Rattle.records.specs.Readings.{within}
-use Rattle.records.proofs.Types.{type-width, known-is}
+use Rattle.records.proofs.Types.{code-is, known-is}
 use Rattle.records.proofs.RecordRules.{By, by-must, by-rest}
 use Rattle.vhead.specs.Heads.{head, headIn, fieldAt, fieldsFrom, ordered, typed, sized, fieldsFault, headFault}
 use Rattle.vhead.specs.HeadRules.{interlaceOf, recordSizeOf, fieldCount, typeOf, sizeOf, orderOf, sizesBefore, Measured, headRules}
@@ -115,7 +115,7 @@ module _ (e : List ℕ) where
       let upto = zero-add n in (
         (λ b. let h = t .0 b in (
           (λ i l. let f = h .0 i (omega arith) (omega arith) in record {
-            size = λ kind width x. f .0 ∙ ap (λ w. orderOf e i * w) (type-width x .0);
+            size = λ byte-order kind width x. f .0 ∙ ap (λ w. orderOf e i * w) (code-is x .0);
             offset = f .1;
           }),
           h .1 ∙ ap (sizesBefore e) upto,
@@ -124,7 +124,7 @@ module _ (e : List ℕ) where
           (λ i a l.
               let m = h .0 i (omega arith) in
               let k = known i (omega arith) in
-              (m .size _ _ (k .2) ∙ ap (λ w. orderOf e i * w) (sym (type-width (k .2) .0)), m .offset)),
+              (m .size _ _ _ (k .3) ∙ ap (λ w. orderOf e i * w) (sym (code-is (k .3) .0)), m .offset)),
           h .1 ∙ ap (sizesBefore e) (sym upto),
         )),
       )

@@ -6,7 +6,8 @@ use mathlib.Core.Path.{_≡_, refl, sym, ap, _∙_}
 use mathlib.Core.List.{List, [], _∷_}
 use lib.ListN.{length}
 use Rattle.wire.specs.Numbers.{be, Bytes, Reads}
-use Rattle.wire.proofs.Numbers.{be-small}
+use Rattle.wire.specs.declared.ByteOrder.the-variants.{BigEndian}
+use Rattle.wire.proofs.Numbers.{number-small}
 use Rattle.wire.specs.Layouts.{Layout, read, extent, numbersAt}
 use Rattle.wire.proofs.Layouts.{length-numbersAt, numbersAt-next}
 use Rattle.vset.specs.Columns.{rows4}
@@ -103,7 +104,7 @@ module _ (e : List ℕ) where
   fields-count = ap (λ h. h .fields) head-is
 
   pub fields-few : Bytes e → headIn e .fields < 65536
-  fields-few b = rw fields-count (be-small 2 e 8 b)
+  fields-few b = rw fields-count (number-small BigEndian 2 e 8 b)
 
   -- what is read, field by field
   pub head-reads : (n interlace records size : ℕ) (t : Tail) → Reads 2 e 8 n → Reads 2 e 0 interlace → Reads 4 e 2 records → Reads 2 e 6 size

@@ -45,7 +45,7 @@ shape e n =
     let rows = nameRows 0 e n (10 + 8 * n) in
     fieldsThen e n (namesApart (every 1 2 n rows) (partsAt e rows) ++ numbers (tail (λ t. t)) e (namesEnd e n (10 + 8 * n)))
 
-tail-on : (e : List ℕ) (at : ℕ) → at ≤ tailIn e at .end
+pub tail-on : (e : List ℕ) (at : ℕ) → at ≤ tailIn e at .end
 unfolding read
 tail-on e at = omega arith
 

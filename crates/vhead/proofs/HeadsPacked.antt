@@ -9,6 +9,7 @@ use lib.Seq.{take-at, drop-at, drop-cons, drop-drop, length-take-le}
 use lib.Dec.{leb, eqb}
 use borrow.Author.Tests.{leb-true, le-leb, lt-leb, eqb-true, eq-eqb, ne-eqb}
 use Rattle.wire.specs.Numbers.{bytes, put, part, Bytes}
+use Rattle.wire.specs.declared.ByteOrder.the-variants.{BigEndian}
 use Rattle.wire.proofs.Numbers.{length-bytes, length-put, bytes-take, bytes-drop}
 use Rattle.answer.proofs.Search.{must-holds, must-fails, passed}
 use Rattle.answer.specs.Refusals.{RECORD}
@@ -78,7 +79,7 @@ module _ (lengths all : List ℕ) where
           let rest = namesBytes (drop (i + 1) lengths) (drop (from + n) all) in
           let inside : from + n ≤ length all = name-inside h l in
           let k : length own ≡ n = length-own all from n inside in
-          let two : length (bytes 2 n) ≡ 2 = length-bytes 2 n in
+          let two : length (bytes 2 n) ≡ 2 = length-bytes BigEndian 2 n in
           let is : b ≡ put (put out to (bytes 2 n)) (to + 2) own = eb ∙ rw (ea, en) in
           record {
             upto = omega arith;
@@ -222,9 +223,9 @@ pub laid-start : (out : List ℕ) (b : Start) (n : ℕ) (s₀ s₁ s₂ s₃ : L
     → s₁ ≡ put s₀ 2 (bytes 4 (b .records)) → s₂ ≡ put s₁ 6 (bytes 2 (b .«record_size»)) → s₃ ≡ put s₂ 8 (bytes 2 n) → s₃ ≡ put out 0 (startBytes b n)
 laid-start out b n s₀ s₁ s₂ s₃ e₀ e₁ e₂ e₃ =
     rw (e₃, e₂, e₁, e₀)
-    (put-follows _ _ _ _ _ (omega (arith, length-bytes 2 (b .«record_size»)))
-    ∙ put-follows _ _ _ _ _ (omega (arith, length-bytes 4 (b .records)))
-    ∙ put-follows _ _ _ _ _ (omega (arith, length-bytes 2 (b .interlace))))
+    (put-follows _ _ _ _ _ (omega (arith, length-bytes BigEndian 2 (b .«record_size»)))
+    ∙ put-follows _ _ _ _ _ (omega (arith, length-bytes BigEndian 4 (b .records)))
+    ∙ put-follows _ _ _ _ _ (omega (arith, length-bytes BigEndian 2 (b .interlace))))
 
 -- the columns, one after the other
 pub laid-columns : (out rows : List ℕ) (n : ℕ) (s₀ s₁ s₂ s₃ : List ℕ) → s₀ ≡ put out 10 (columnBytes rows n 0)

@@ -7,3 +7,4 @@ pub mod HeadsBack
 pub mod HeadClaims
 pub mod HeadRules
 pub mod HeadRuleClaims
+pub mod ByteOrderClaims

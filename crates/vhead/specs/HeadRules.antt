@@ -7,8 +7,9 @@ use lib.ListN.{length, getD}
 use Rattle.answer.specs.Rules.{Rules, done, rule}
 use Rattle.wire.specs.Numbers.{be}
 use Rattle.wire.specs.Layouts.{read}
+use Rattle.wire.specs.declared.ByteOrder.{ByteOrder}
 use Rattle.records.specs.RecordRules.{recordRules}
-use Rattle.records.specs.Types.{TypeIs, KnownType}
+use Rattle.records.specs.Types.{CodeIs, KnownType}
 use Rattle.vhead.specs.Heads.{head}
 
 -- ---- The numbers of a head, in its bytes
@@ -54,7 +55,7 @@ sizesBefore e (suc i) = sizesBefore e i + sizeOf e i
 
 -- a field's size is its order times that of its type, and its offset is the sum of the sizes before it
 pub record Measured (e : List ℕ) (i : ℕ) : Type 0 where
-  pub size : (kind width : ℕ) → TypeIs (typeOf e i) kind width → sizeOf e i ≡ orderOf e i * width
+  pub size : (byte-order : ByteOrder) (kind width : ℕ) → CodeIs (typeOf e i) byte-order kind width → sizeOf e i ≡ orderOf e i * width
   pub offset : offsetOf e i ≡ sizesBefore e i
 
 -- the bytes e of a head at the slot p: layout and version, interlace, count and orders; types; sizes, offsets and the record size. Then what

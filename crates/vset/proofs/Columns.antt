@@ -8,6 +8,7 @@ use mathlib.Core.List.{List, [], _∷_, _++_}
 use lib.ListN.{length, getD, take, drop, set, length-set}
 use lib.Seq.{sets, take-at, drop-at, getD-drop}
 use Rattle.wire.specs.Numbers.{bytes, put}
+use Rattle.wire.specs.declared.ByteOrder.the-variants.{BigEndian}
 use Rattle.wire.proofs.Numbers.{length-bytes, length-put, put-put}
 use Rattle.wire.specs.Layouts.{bytesEach}
 use Rattle.vset.specs.Columns.{rows2, rows4, every}
@@ -94,7 +95,7 @@ module _ (out₀ : List ℕ) (at : ℕ) (table : List ℕ) (first step count : �
     laying-next h =
         let own = bytes 2 (getD table (first + step * i) 0) in
         let rest = every (first + step * (i + 1)) step (count - (i + 1)) table in
-        let n : length own ≡ 2 = length-bytes 2 (getD table (first + step * i) 0) in
+        let n : length own ≡ 2 = length-bytes BigEndian 2 (getD table (first + step * i) 0) in
         let a : at + 2 * (i + 1) ≡ at + 2 * i + length own = omega arith in
         record {
           upto = omega arith;

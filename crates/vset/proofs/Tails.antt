@@ -9,8 +9,9 @@ use lib.ListN.{length, getD, take, drop, length-append}
 use lib.Seq.{take-append-seam, drop-append-seam}
 use lib.Dec.{leb, eqb}
 use borrow.Author.Tests.{leb-true, leb-false, le-leb, lt-leb, eqb-true, eq-eqb, ne-eqb}
-use Rattle.wire.specs.Numbers.{be, bytes, put, part, Bytes, Reads}
-use Rattle.wire.proofs.Numbers.{be-small, length-bytes, put-put, put-past, length-part}
+use Rattle.wire.specs.Numbers.{be, bytes, put, part, Bytes, Reads, bytesIn}
+use Rattle.wire.specs.declared.ByteOrder.the-variants.{BigEndian}
+use Rattle.wire.proofs.Numbers.{number-small, length-bytes, put-put, put-past, length-part}
 use Rattle.directory.specs.Limits.{most-bytes}
 use Rattle.directory.specs.Slots.{sizeAt, contentAt}
 use Rattle.answer.proofs.Tests.{test, same?}
@@ -79,7 +80,7 @@ tail-reads e at n k tag ref v m rn rk rt rr rv rm =
 
 -- bytes, one by one
 pub bytes-each : (xs : List ℕ) → Bytes xs → bytesEach 1 xs ≡ xs
-unfolding bytesEach bytes
+unfolding bytesEach bytesIn
 bytes-each [] b = refl
 bytes-each (x ∷ xs) b = let e : x % 256 ≡ x = omega (arith, b 0) in rw (e, bytes-each xs (λ i. b (suc i)))
 
@@ -207,13 +208,13 @@ pub put-follows : (s : List ℕ) (at b : ℕ) (vs ws : List ℕ) → b ≡ at + 
 put-follows s at b vs ws e = rw e (put-put s at vs ws)
 
 pub laid-text : (out text : List ℕ) (at : ℕ) (a b : List ℕ) → a ≡ put out at (bytes 2 (length text)) → b ≡ put a (at + 2) text → b ≡ put out at (textBytes text)
-laid-text out text at a b ea eb = rw (eb, ea) (put-follows _ _ _ _ _ (omega (arith, length-bytes 2 (length text))))
+laid-text out text at a b ea eb = rw (eb, ea) (put-follows _ _ _ _ _ (omega (arith, length-bytes BigEndian 2 (length text))))
 
 pub laid-ending : (out : List ℕ) (at : ℕ) (x : Ending) (a b c d : List ℕ) → a ≡ put out at (bytes 2 (x .«extension_tag»))
     → b ≡ put a (at + 2) (bytes 2 (x .«extension_ref»)) → c ≡ put b (at + 4) (bytes 2 (x .version)) → d ≡ put c (at + 6) (bytes 2 (x .more))
     → d ≡ put out at (endingBytes x)
 laid-ending out at x a b c d ea eb ec ed =
-    let two : (y : ℕ) → length (bytes 2 y) ≡ 2 = length-bytes 2 in
+    let two : (y : ℕ) → length (bytes 2 y) ≡ 2 = length-bytes BigEndian 2 in
     rw (ed, ec, eb, ea)
     (put-follows _ _ _ _ _ (omega (arith, two (x .version)))
     ∙ put-follows _ _ _ _ _ (omega (arith, two (x .«extension_ref»)))
@@ -307,8 +308,8 @@ tail-own e at b h version =
     let n = be 2 e at in
     let k = be 2 e (at + 2 + 1 * n) in
     record {
-      name-short = omega (arith, length-part e (at + 2) n (omega arith), be-small 2 e at b);
-      class-short = omega (arith, length-part e (at + 2 + 1 * n + 2) k (omega arith), be-small 2 e (at + 2 + 1 * n) b);
+      name-short = omega (arith, length-part e (at + 2) n (omega arith), number-small BigEndian 2 e at b);
+      class-short = omega (arith, length-part e (at + 2 + 1 * n + 2) k (omega arith), number-small BigEndian 2 e (at + 2 + 1 * n) b);
       version-right = version;
     }
 

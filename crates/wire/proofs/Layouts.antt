@@ -6,17 +6,13 @@ use native.Mathlib.Numerals.{add-one}
 use mathlib.Core.Path.{_≡_, refl, sym, ap, _∙_}
 use mathlib.Core.List.{List, [], _∷_, _++_, append-assoc, append-nil}
 use lib.ListN.{length, getD, take, drop, take-append-drop, length-append, List·getD-append}
-use lib.Seq.{length-take-le, take-at, drop-at, take-add, drop-drop, take-length, drop-cons, getD-append-add}
+use lib.Seq.{length-take-le, take-at, drop-at, take-length, drop-cons, getD-append-add}
 use Rattle.wire.specs.Numbers.{be, bytes, put, part, Bytes}
-use Rattle.wire.proofs.Numbers.{be-small, be-one, be-holds, bytes-be, length-bytes, put-put}
+use Rattle.wire.specs.declared.ByteOrder.the-variants.{BigEndian}
+use Rattle.wire.proofs.Numbers.{number-small, number-one, number-holds, bytes-number, length-bytes, put-put, part-add}
 use Rattle.wire.specs.Layouts.{Layout, end, number, run, read, extent, numbers, pack, given, numbersAt, bytesEach, Small, Fits}
 
 -- ---- Parts
-
--- a part, then the part after it
-pub part-add : (e : List ℕ) (at m n : ℕ) → part e at (m + n) ≡ part e at m ++ part e (at + m) n
-unfolding part
-part-add e at m n = take-add m n (drop at e) ∙ ap (λ l. take m (drop at e) ++ take n l) (drop-drop m at e)
 
 pub part-whole : (e : List ℕ) → part e 0 (length e) ≡ e
 unfolding part
@@ -75,13 +71,13 @@ bytesEach-append width (x ∷ xs) ys = rw (bytesEach-append width xs ys) (sym (a
 pub numbersAt-part : (count : ℕ) (e : List ℕ) (at : ℕ) → at + count ≤ length e → numbersAt 1 count e at ≡ part e at count
 unfolding numbersAt part
 numbersAt-part zero e at h = refl
-numbersAt-part (suc count) e at h = rw (be-one, numbersAt-part count e (at + 1) (omega arith), drop-cons e at 0 (omega arith), add-one)
+numbersAt-part (suc count) e at h = rw (number-one, numbersAt-part count e (at + 1) (omega arith), drop-cons e at 0 (omega arith), add-one)
 
 -- numbers that are read are as small as their bytes allow
 pub numbersAt-small : (width count : ℕ) (e : List ℕ) (at : ℕ) → Bytes e → Small width (numbersAt width count e at)
 unfolding numbersAt
 numbersAt-small width zero e at b i = one-le-pow width 256 (omega arith)
-numbersAt-small width (suc count) e at b zero = be-small width e at b
+numbersAt-small width (suc count) e at b zero = number-small BigEndian width e at b
 numbersAt-small width (suc count) e at b (suc i) = numbersAt-small width count e (at + width) b i
 
 -- bytes of read numbers
@@ -91,7 +87,7 @@ unfolding numbersAt bytesEach part
 bytesEach-numbersAt width zero e at b h = rw (mul-zero, part)
 bytesEach-numbersAt width (suc count) e at b h =
     let n : width * suc count ≡ width + width * count = rw mul-suc (omega arith) in
-    rw (bytes-be width e at b (omega arith), bytesEach-numbersAt width count e (at + width) b (omega arith), n) (sym (part-add e at width (width * count)))
+    rw (bytes-number BigEndian width e at b (omega arith), bytesEach-numbersAt width count e (at + width) b (omega arith), n) (sym (part-add e at width (width * count)))
 
 -- the numbers of a run before others
 pub take-run : (width count : ℕ) (e : List ℕ) (at : ℕ) (more : List ℕ) → take count (numbersAt width count e at ++ more) ≡ numbersAt width count e at
@@ -105,7 +101,7 @@ drop-run width count e at more = drop-at (numbersAt width count e at) more count
 -- a number that stands after some bytes
 pub be-laid : (width x : ℕ) (before after : List ℕ) (at : ℕ) → length before ≡ at → x < 256 ^ width → be width (before ++ (bytes width x ++ after)) at ≡ x
 be-laid width x before after at l h =
-    be-holds width (before ++ (bytes width x ++ after)) at x h
+    number-holds BigEndian width (before ++ (bytes width x ++ after)) at x h
     (λ i m. rw (← l, getD-append-add before (bytes width x ++ after) i 0) (List·getD-append (bytes width x) after 0 i m))
 
 pub numbersAt-laid : (width : ℕ) (xs before after : List ℕ) (at : ℕ) → length before ≡ at → Small width xs
@@ -127,7 +123,7 @@ fields before own next after = simp append-assoc
 -- a field put in place, then those after it
 pub put-field : (width x : ℕ) (out : List ℕ) (at : ℕ) (rest : List ℕ) → put out at (bytes width x ++ rest) ≡ put (put out at (bytes width x)) (at + width) rest
 put-field width x out at rest =
-    sym (put-put out at (bytes width x) rest) ∙ ap (λ k. put (put out at (bytes width x)) (at + k) rest) (length-bytes width x)
+    sym (put-put out at (bytes width x) rest) ∙ ap (λ k. put (put out at (bytes width x)) (at + k) rest) (length-bytes BigEndian width x)
 
 pub put-run : (width : ℕ) (xs out : List ℕ) (at : ℕ) (rest : List ℕ)
     → put out at (bytesEach width xs ++ rest) ≡ put (put out at (bytesEach width xs)) (at + width * length xs) rest
@@ -152,7 +148,7 @@ module _ {A : Type 0} where
       let next = then (be width e at) in
       let l = at-most next e (at + width) in
       let n : extent next e (at + width) - at ≡ width + (extent next e (at + width) - (at + width)) = omega arith in
-      rw (n, part-add e at width (extent next e (at + width) - (at + width)), bytes-be width e at b (omega arith), pack-numbers (then (be width e at)) e (at + width) b h)
+      rw (n, part-add e at width (extent next e (at + width) - (at + width)), bytes-number BigEndian width e at b (omega arith), pack-numbers (then (be width e at)) e (at + width) b h)
   pack-numbers (run width count then) e at b h =
       let next = then at in
       let l = at-most next e (at + width * count) in
@@ -162,7 +158,7 @@ module _ {A : Type 0} where
   pub numbers-fit : (layout : Layout A) (e : List ℕ) (at : ℕ) → Bytes e → Fits layout (numbers layout e at) at
   unfolding numbers
   numbers-fit (end a) e at b = refl
-  numbers-fit (number width then) e at b = (omega arith, be-small width e at b, numbers-fit (then (be width e at)) e (at + width) b)
+  numbers-fit (number width then) e at b = (omega arith, number-small BigEndian width e at b, numbers-fit (then (be width e at)) e (at + width) b)
   numbers-fit (run width count then) e at b = (
     rw (length-append, length-numbersAt) (omega arith),
     rw take-run (numbersAt-small width count e at b),
@@ -189,7 +185,7 @@ module _ {A : Type 0} where
   packed-at (number width then) (x ∷ xs) at f before after e l q =
       let own = bytes width x in
       let next = pack (then x) xs (at + width) in
-      let n : length own ≡ width = length-bytes width x in
+      let n : length own ≡ width = length-bytes BigEndian width x in
       let first : be width e at ≡ x = ap (λ d. be width d at) (q ∙ ap (λ d. before ++ d) (append-assoc own next after)) ∙ be-laid width x before (next ++ after) at l (f .1) in
       let r : PackedAt (then x) xs e (at + width) =
       packed-at (then x) xs (at + width) (f .2) (before ++ own) after e (length-append before own ∙ rw (l, n)) (q ∙ fields before own next after) in

@@ -1,30 +1,22 @@
-// Numbers in bytes, most significant byte first: the only way in this library to read or write one.
+// Numbers in bytes: the only way in this library to read or write one. Most significant byte first, but where a byte order is named.
 //
 // Every function answers on all inputs. A byte past the end reads as 0, and what would be written past the end is dropped.
 ghost use mathlib.Core.Path.{_≡_};
-ghost use Prim.Native.Nat.{_+_, _<_, _≤_, min};
-ghost use lib.ListN.{length, replicate};
+ghost use Prim.Native.Nat.{_+_, _<_, min};
+ghost use lib.ListN.{replicate};
 ghost use Rattle.wire.specs.Numbers as Numbers;
-ghost use Rattle.wire.specs.Numbers.{bytes, put, Reads};
+ghost use Rattle.wire.specs.Numbers.{bytes, put, lowAt, highAt, ReadsIn, Reads};
+
+// Which byte of a number stands first: its most significant one, or its least.
+pub enum ByteOrder {
+    BigEndian,
+    LittleEndian,
+}
 
 fn wide(x: u8) -> usize
     ensures { λ r. ⌜ (r ≡ x) × (r < 256) ⌝ }
 {
     x as usize
-}
-
-// The number at a place from which the bytes may not reach as far as it is wide.
-fn read_at_end(s: &[u8], at: usize, width: usize) -> usize
-    requires { ⌜ (at ≤ length (now s)) × (width ≤ 8) ⌝ }
-    ensures { λ r. ⌜ Reads width (now (s .entry)) at r ⌝ }
-{
-    let mut n = 0;
-    let mut i = 0;
-    while i < width {
-        n = n * 256 + read8(s, at + i);
-        i += 1;
-    }
-    n
 }
 
 pub fn read8(s: &[u8], at: usize) -> usize
@@ -43,7 +35,7 @@ pub fn read16(s: &[u8], at: usize) -> usize
         return 0;
     }
     if s.len() - at < 2 {
-        return read_at_end(s, at, 2);
+        return read8(s, at) * 256 + read8(s, at + 1);
     }
     wide(s[at]) * 256 + wide(s[at + 1])
 }
@@ -55,7 +47,7 @@ pub fn read32(s: &[u8], at: usize) -> usize
         return 0;
     }
     if s.len() - at < 4 {
-        return read_at_end(s, at, 4);
+        return read16(s, at) * 65536 + read16(s, at + 2);
     }
     wide(s[at]) * 16777216 + wide(s[at + 1]) * 65536 + wide(s[at + 2]) * 256 + wide(s[at + 3])
 }
@@ -67,6 +59,34 @@ pub fn read64(s: &[u8], at: usize) -> usize
         return 0;
     }
     read32(s, at) * 4294967296 + read32(s, at + 4)
+}
+
+// Where the byte of a number stands that lies between so many high ones and so many low ones.
+fn next_byte(order: ByteOrder, at: usize, high: usize, low: usize) -> usize
+    requires { ⌜ at + high + low < 18446744073709551616 ⌝ }
+    ensures { λ r. ⌜ r ≡ lowAt order high (highAt order low at) ⌝ }
+{
+    match order {
+        ByteOrder::BigEndian => at + high,
+        ByteOrder::LittleEndian => at + low,
+    }
+}
+
+// The number in so many bytes, at most 8, in a byte order.
+pub fn read_number(s: &[u8], at: usize, width: usize, order: ByteOrder) -> usize
+    ensures { λ r. ⌜ ReadsIn order (min width 8) (now (s .entry)) at r ⌝ }
+{
+    if s.len() <= at {
+        return 0;
+    }
+    let count = least(width, 8);
+    let mut n = 0;
+    let mut i = 0;
+    while i < count {
+        n = n * 256 + read8(s, next_byte(order, at, i, count - 1 - i));
+        i += 1;
+    }
+    n
 }
 
 pub fn write8(s: &mut [u8], at: usize, x: usize)

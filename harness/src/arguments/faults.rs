@@ -4,17 +4,19 @@
 use crate::packing::{Record, MOST};
 use crate::random::Random;
 use crate::records::{Array, Dimension};
-use crate::vset::{Group, Tail, Vdata, FIELD, MOST_FIELDS};
+use crate::vset::{Group, Tail, Vdata, CODES, FIELD, LOW_FIRST, MOST_FIELDS};
+use std::iter::repeat_with;
 
 type FieldFault = fn(&mut Random, &mut Vdata);
 
 /// Faults that can stand in a file as well.
-const FIELD_FAULTS: [FieldFault; 13] = [
+const FIELD_FAULTS: [FieldFault; 14] = [
     interlace,
     version,
     order_zero,
     order_off,
     type_unknown,
+    byte_order_turned,
     size_off,
     size_off_with_all_else,
     offset_off,
@@ -34,6 +36,12 @@ const TYPE: usize = 0;
 const SIZE: usize = 1;
 const OFFSET: usize = 2;
 const ORDER: usize = 3;
+
+/// What a code has more in each byte order.
+const BYTE_ORDERS: [u16; 2] = [0, LOW_FIRST];
+
+/// Types of one byte, of both byte orders.
+const ONE_BYTE: [u16; 4] = [4, 21, 4 + LOW_FIRST, 21 + LOW_FIRST];
 
 /// One fault in so many is a count or a name past 16 bits.
 const GREATEST_EVERY: usize = 40;
@@ -119,12 +127,24 @@ fn order_off(random: &mut Random, vdata: &mut Vdata) {
     put(random, vdata, ORDER, off_by_one);
 }
 
-/// Types that are not known here, some of them of numbers with the low byte first.
 fn type_unknown(random: &mut Random, vdata: &mut Vdata) {
     put(random, vdata, TYPE, |random, _| {
-        let any = random.u16();
-        random.pick(&[0, 1, 2, 7, 8, 19, 26, 27, 42, 259, 0x1018, 0x4003, 0x4019, 0x4005, 65535, any])
+        let mut codes = repeat_with(|| any_code(random));
+        codes.find(|code| !CODES.contains(code)).expect("some code is unknown")
     });
+}
+
+/// A code far from all types, one that is a type but for a bit or two, or any.
+fn any_code(random: &mut Random) -> u16 {
+    let far = random.pick(&[0, 1, 2, 7, 8, 19, 26, 27, 42, 259]) + random.pick(&BYTE_ORDERS);
+    let near = random.pick(&CODES) ^ random.pick(&[0x1000, 0x2000, 0x8000, 0xc000]);
+    let any = random.u16();
+    random.pick(&[far, far, near, near, any, u16::MAX])
+}
+
+/// The numbers are the same, but their bytes stand the other way. The head itself is good.
+fn byte_order_turned(random: &mut Random, vdata: &mut Vdata) {
+    put(random, vdata, TYPE, |_, code| code ^ LOW_FIRST);
 }
 
 fn size_off(random: &mut Random, vdata: &mut Vdata) {
@@ -149,7 +169,7 @@ fn record_size_off(random: &mut Random, vdata: &mut Vdata) {
 fn size_past_16_bits(random: &mut Random, vdata: &mut Vdata) {
     let (number_type, size) = random.pick(&[(22, 2), (25, 4), (5, 4), (6, 8)]);
     let order = (0x1_0000 / u32::from(size)) as u16 + random.below(3) as u16;
-    vdata.add(number_type, order.wrapping_mul(size), order);
+    vdata.add(number_type + random.pick(&BYTE_ORDERS), order.wrapping_mul(size), order);
     vdata.name_last(random);
 }
 
@@ -158,7 +178,7 @@ fn offset_past_16_bits(random: &mut Random, vdata: &mut Vdata) {
     let first = random.between(40_000, 65_535) as u16;
     let rest = u16::MAX - first;
     for size in [first, rest + random.below(3) as u16, random.below(3) as u16 + 1] {
-        vdata.add(random.pick(&[4, 21]), size, size);
+        vdata.add(random.pick(&ONE_BYTE), size, size);
         vdata.name_last(random);
     }
 }
@@ -167,7 +187,7 @@ fn offset_past_16_bits(random: &mut Random, vdata: &mut Vdata) {
 fn too_many_fields(random: &mut Random, vdata: &mut Vdata) {
     let count = random.pick(&[MOST_FIELDS, MOST_FIELDS + 1, MOST_FIELDS + 1, 300]);
     while vdata.field_count() < count {
-        vdata.add(21, 1, 1);
+        vdata.add(random.pick(&ONE_BYTE), 1, 1);
         vdata.name_last(random);
     }
 }
@@ -182,7 +202,7 @@ fn entries_off(random: &mut Random, vdata: &mut Vdata) {
     match random.below(3) {
         0 => vdata.fields.truncate(vdata.fields.len().saturating_sub(1)),
         1 => vdata.fields.push(1),
-        _ => vdata.fields.extend([21, 1, vdata.record_size, 1]),
+        _ => vdata.fields.extend([random.pick(&ONE_BYTE), 1, vdata.record_size, 1]),
     }
 }
 

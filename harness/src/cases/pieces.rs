@@ -75,6 +75,17 @@ pub fn numbers32(numbers: &[u32]) -> Vec<u8> {
     numbers.iter().flat_map(|number| number.to_be_bytes()).collect()
 }
 
+/// The head of a Vdata without names. Each field is given by type, size, offset and order; in the head all types come first, then
+/// all sizes, and so on.
+pub fn vdata_head(interlace: u16, records: u32, record_size: u16, fields: &[[u16; 4]]) -> Vec<u8> {
+    let column = |index: usize| fields.iter().map(|field| field[index]).collect::<Vec<u16>>();
+    let columns = [0, 1, 2, 3].map(column).concat();
+    let lengths = vec![0; fields.len()];
+    let start = [numbers16(&[interlace]), numbers32(&[records]), numbers16(&[record_size, fields.len() as u16])];
+    let rest = [columns, lengths, vec![0, 0, 0, 0, 3, 0]].concat();
+    [start.concat(), numbers16(&rest)].concat()
+}
+
 /// Bytes from their digits, in groups of any size.
 pub fn hex(digits: &str) -> Vec<u8> {
     let digits: Vec<u32> = digits.chars().filter_map(|digit| digit.to_digit(16)).collect();

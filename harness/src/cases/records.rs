@@ -1,7 +1,6 @@
-//! Records whose numbers are known beforehand: those of real files, from the program that wrote them, and one written by hand.
-//! The library must give these numbers; that the reader gives the same ones is compared on the same files.
+//! Records of real files whose numbers are known beforehand, from the program that wrote them. The library must give these
+//! numbers; that the reader gives the same ones is compared on the same files.
 
-use super::pieces::file;
 use crate::compare::compare_records;
 use crate::compare::vset::value_at;
 use crate::files;
@@ -10,7 +9,7 @@ use crate::random::Random;
 use crate::reader::SMALL;
 use crate::records::{DEEP, NO_VALUE};
 use crate::tally::Tally;
-use crate::vset::{DATA, GROUP, HEAD};
+use crate::vset::{GROUP, HEAD};
 use hdf4_sys::{self as library, Field};
 
 /// The types in the order of the Vdatas of `vdata_types.hdf`, the first of them with reference 2; sizes, and kinds of values.
@@ -29,7 +28,7 @@ const TYPES: [(u16, usize, u64); 10] = [
 
 /// Holds all cases against the library; answers how many there are.
 pub fn check(random: &mut Random, tally: &mut Tally) -> Result<usize, String> {
-    let cases = [number_types, dimension, array, group, listing, deep_listing, fields, types, interlaces, extremes];
+    let cases = [number_types, dimension, array, group, listing, deep_listing, fields, types, interlaces];
     for case in cases {
         let image = case()?;
         compare_records(&image, random, tally).map_err(|difference| difference.to_string())?;
@@ -174,33 +173,6 @@ fn interlaces() -> Case {
     Ok(image)
 }
 
-/// A record of the least numbers of each signed type and of NaNs, whose bits come back as they are.
-fn extremes() -> Case {
-    let fields = [[20, 1, 0, 1], [22, 2, 1, 1], [24, 4, 3, 1], [5, 8, 7, 2], [6, 8, 15, 1]];
-    let values: [(u64, u64); 6] = [
-        (1, 0xffff_ffff_ffff_ff80),
-        (1, 0xffff_ffff_ffff_8000),
-        (1, 0xffff_ffff_8000_0000),
-        (3, 0x7f80_0001),
-        (3, 0xffc0_0000),
-        (4, 0xfff0_0000_0000_0001),
-    ];
-    let mut head = [0_u16, 0, 1, 23, 5].map(u16::to_be_bytes).concat();
-    (0..4).for_each(|column| head.extend(fields.map(|field: [u16; 4]| field[column].to_be_bytes()).concat()));
-    head.extend([0; 10]);
-    head.extend([0, 0, 0, 0, 0, 0, 0, 0, 0, 3, 0, 0]);
-    let mut data = vec![0x80, 0x80, 0, 0x80, 0, 0, 0];
-    data.extend([0x7f80_0001_u32, 0xffc0_0000].map(u32::to_be_bytes).concat());
-    data.extend(0xfff0_0000_0000_0001_u64.to_be_bytes());
-    let image = file(&[(HEAD, 1, head), (DATA, 1, data)]).bytes();
-    for (field, component, index) in [(0, 0, 0), (1, 0, 1), (2, 0, 2), (3, 0, 3), (3, 1, 4), (4, 0, 5)] {
-        let a = value_at(&image, 1, [0, field, component]);
-        let (kind, bits) = values[index];
-        same("extreme value", [a.number, a.place, a.kind, a.bits], [0, 0, kind, bits])?;
-    }
-    Ok(image)
-}
-
 /// Five bytes at a place of the image, spaces where there are fewer.
 fn text(image: &[u8], place: u64, length: u64) -> [u8; 5] {
     let (place, length) = (place as usize, length as usize);
@@ -209,7 +181,8 @@ fn text(image: &[u8], place: u64, length: u64) -> [u8; 5] {
     text
 }
 
-fn same<T: PartialEq + std::fmt::Debug, const N: usize>(
+/// What the library says must be what is known.
+pub fn same<T: PartialEq + std::fmt::Debug, const N: usize>(
     what: &str,
     library: [T; N],
     known: [T; N],

@@ -15,6 +15,7 @@ mod lookup;
 mod opening;
 mod packing;
 mod records;
+mod types;
 mod undo;
 mod vdatas;
 

@@ -56,6 +56,9 @@ fn compare_in(record: &Record, room: usize, tally: &mut Tally) -> Outcome {
     }
     tally.count(record.call(), expected.number());
     tally.count_cause(record.call(), cause_of(&packing));
+    if let (Record::Vdata(vdata), Ok(_)) = (record, &packing) {
+        tally.count_types(Call::PackVdata, vdata);
+    }
     Ok(())
 }
 

@@ -106,6 +106,9 @@ fn compare_head(trial: &mut Trial, reference: u16, rooms: [usize; 2]) -> Outcome
     let reading = vset::read_vdata(trial.lent.image(), &trial.directory, reference, rooms);
     trial.judge(Call::ReadVdata, &arguments, library, &reading, vdata_read)?;
     let found = reading.as_ref().ok().map(|(found, _)| found);
+    if let Some(found) = found {
+        trial.tally.count_types(Call::ReadVdata, &found.record);
+    }
     holds(Call::ReadVdata, &arguments, &fields, found.map_or(&[], |found| &found.record.fields))?;
     holds(Call::ReadVdata, &arguments, &names, &found.map_or(Vec::new(), field_names))
 }
@@ -122,7 +125,11 @@ fn compare_fields(trial: &mut Trial, reference: u16, room: usize) -> Outcome {
     let library = library::read_fields(trial.lent.image(), reference, table.lend());
     let reading = vset::read_fields(trial.lent.image(), &trial.directory, reference, room);
     trial.judge(Call::ReadFields, &arguments, library, &reading, vdata_read)?;
-    holds(Call::ReadFields, &arguments, &table, &reading.map_or(Vec::new(), |(found, _)| fields_of(&found)))
+    let found = reading.as_ref().ok().map(|(found, _)| found);
+    if let Some(found) = found {
+        trial.tally.count_types(Call::ReadFields, &found.record);
+    }
+    holds(Call::ReadFields, &arguments, &table, &found.map_or(Vec::new(), fields_of))
 }
 
 /// The fields with the places and lengths of their names.
@@ -164,7 +171,7 @@ fn compare_value(trial: &mut Trial, reference: u16, indices: [u64; 3]) -> Outcom
     let library = value_at(trial.lent.image(), reference, indices);
     let reading = vset::read_value(trial.lent.image(), &trial.directory, reference, indices);
     if let Ok((value, cause)) = &reading {
-        trial.tally.count_value(value.number_type, *cause);
+        trial.tally.count_value(value, *cause);
     }
     let arguments = [reference.into(), record, field, component];
     trial.judge(Call::ReadValue, &arguments, library, &reading, value_read)

@@ -48,7 +48,7 @@ fn compare_group(image: &[u8], group: &Group, counts: &mut Counts) -> Outcome {
     let mut members = vec![0; group.members.len()];
     let a = library::read_group(image, group.reference, &mut members);
     if group.version != u64::from(VERSION) {
-        counts.refused += 1;
+        counts.other_version += 1;
         return refused("group", a, RECORD, slot_of(image, GROUP, group.reference)?);
     }
     let count = group.members.len() as u64 / 2;
@@ -62,9 +62,13 @@ fn compare_group(image: &[u8], group: &Group, counts: &mut Counts) -> Outcome {
 
 /// Compares a head, its fields and its values; these are in another element.
 fn compare_vdata(image: &[u8], vdata: &Vdata, data: Option<&Storage>, counts: &mut Counts) -> Outcome {
-    if let Some(number) = refusal_of(vdata) {
-        counts.refused += 1;
-        return head_refused(image, vdata.reference, number);
+    if vdata.version != u64::from(VERSION) {
+        counts.other_version += 1;
+        return head_refused(image, vdata.reference, RECORD);
+    }
+    if vdata.fields.iter().any(|field| size_of(field.code).is_none()) {
+        counts.other_type += 1;
+        return head_refused(image, vdata.reference, TYPE);
     }
     let count = vdata.fields.len();
     let (mut fields, mut names) = (vec![0; FIELD * count], vec![0; 2 * count]);
@@ -80,14 +84,6 @@ fn compare_vdata(image: &[u8], vdata: &Vdata, data: Option<&Storage>, counts: &m
     }
     counts.vdatas += 1;
     compare_values(image, vdata, data, counts)
-}
-
-/// Why the library refuses a head that libhdf4 reads: it is of another version, or of a type that is not known.
-fn refusal_of(vdata: &Vdata) -> Option<u64> {
-    if vdata.version != u64::from(VERSION) {
-        return Some(RECORD);
-    }
-    vdata.fields.iter().any(|field| size_of(field.code).is_none()).then_some(TYPE)
 }
 
 /// A head is refused, and with it any value.
@@ -134,8 +130,8 @@ fn compare_records(image: &[u8], vdata: &Vdata, counts: &mut Counts) -> Outcome 
         for (indices, Value { kind, bits }) in indices.into_iter().zip(values) {
             let value = ValueAnswer { kind: *kind, bits: *bits, ..ValueAnswer::default() };
             same(&format!("value {indices:?}"), value_at(image, vdata.reference, indices), value)?;
+            *counts.values.entry(vdata.fields[indices[1] as usize].code).or_default() += 1;
         }
-        counts.values += values.len();
     }
     Ok(())
 }

@@ -8,7 +8,7 @@ use super::parts::{self, Part};
 use crate::arguments;
 use crate::packing::{bytes_of, layout, Record};
 use crate::random::Random;
-use crate::vset::{size_of, Vdata, DATA};
+use crate::vset::{type_of, Vdata, DATA};
 
 /// Longer data are left out: such a Vdata has too few of them.
 const MOST_DATA: u64 = 1 << 18;
@@ -115,10 +115,15 @@ fn add_fields(random: &mut Random, vdata: &Vdata, bytes: &mut Vec<u8>) {
     }
 }
 
-/// Any bits, or telling ones.
+/// Any bits, or telling ones, in the byte order of the type.
 fn add_value(random: &mut Random, number_type: u16, bytes: &mut Vec<u8>) {
-    let size = size_of(number_type).expect("a type of a good record");
+    let known = type_of(number_type).expect("a type of a good record");
     let any = random.next();
     let bits = if random.once_in(2) { any } else { random.pick(&TELLING) };
-    bytes.extend(&bits.to_be_bytes()[..size.into()]);
+    let mut number = bits.to_be_bytes();
+    let number = &mut number[..known.size.into()];
+    if known.is_low_first {
+        number.reverse();
+    }
+    bytes.extend(&*number);
 }

@@ -12,8 +12,8 @@ use crate::vset::{Group, Vdata, DATA, GROUP, HEAD};
 const DIRECTORY: usize = 4;
 const FRONT: usize = 46;
 const RECORD_SIZE: usize = 12;
-/// Type, size, offset and order of each field.
-const FIELDS: [u16; 8] = [6, 8, 0, 1, 22, 4, 8, 2];
+/// Type, size, offset and order of each field. The low byte of the first one's numbers stands first.
+const FIELDS: [u16; 8] = [16390, 8, 0, 1, 22, 4, 8, 2];
 
 /// Compares values by record and by field, of as many records as there is room for, and of more. The memory holds zeros but for
 /// its first four bytes, before and afterwards.

@@ -35,7 +35,7 @@
 use std::fmt::Debug;
 
 /// The version of the library.
-pub const VERSION: &str = "0.2.2";
+pub const VERSION: &str = "0.2.3";
 
 /// The most bytes that an image has.
 pub const MOST_BYTES: usize = 2_147_483_647;
@@ -51,6 +51,9 @@ pub const MOST_FIELDS: usize = 256;
 
 /// The most pairs that the listing of a group has.
 pub const MOST_PAIRS: usize = 4096;
+
+/// Added to the code of a field's type where numbers stand low byte first.
+pub const LITTLE_ENDIAN: usize = 16384;
 
 /// A signed number.
 pub const SIGNED: u64 = 1;
@@ -109,7 +112,7 @@ pub const SMALL: u64 = 14;
 /// A record breaks its layout.
 pub const RECORD: u64 = 15;
 
-/// A number type is not known.
+/// A number type is not known, also less 16384.
 pub const TYPE: u64 = 16;
 
 /// The Vdata has no such record, field or component.
@@ -549,7 +552,7 @@ answer! {
 #[repr(C)]
 #[derive(Clone, Copy, Debug, Default, PartialEq, Eq)]
 pub struct Field {
-    /// The type's code.
+    /// The type's code, as it is stored.
     pub code: u16,
     /// Bytes of the field in a record.
     pub size: u16,
@@ -868,7 +871,8 @@ pub fn pack_group(
 }
 
 /// Reads the head of a Vdata, tag 1962: type, size, offset and order of each field, and place in the image and length of each
-/// field's name. Tables of 4 times and 2 times [`MOST_FIELDS`] entries are always enough.
+/// field's name. A type is given as it is stored, with [`LITTLE_ENDIAN`] added where numbers stand low byte first. Tables of 4
+/// times and 2 times [`MOST_FIELDS`] entries are always enough.
 #[inline]
 pub fn read_vdata(image: &[u8], reference: u16, fields: &mut [u16], names: &mut [u32]) -> VdataAnswer {
     unsafe {
@@ -927,7 +931,8 @@ pub fn pack_vdata(
     }
 }
 
-/// Reads one value of a Vdata, its head of tag 1962 and its data of tag 1963. All indices count from 0.
+/// Reads one value of a Vdata, its head of tag 1962 and its data of tag 1963. All indices count from 0. Kind and bits are the
+/// number's, whichever of its bytes stands first in the image.
 #[inline]
 pub fn read_value(image: &[u8], reference: u16, record: u64, field: u64, component: u64) -> ValueAnswer {
     unsafe { hdf4_read_value(image.as_ptr(), image.len(), reference, record, field, component) }

@@ -1,21 +1,36 @@
 -- `wire::read32` meets its contract. Assumes nothing.
 use native.Mathlib.Omega.{arith}
+use Rattle.wire.specs.declared.ByteOrder.the-variants.{BigEndian}
 use Rattle.wire.proofs.Numbers
 use borrow.Author.Needs.{needs}
 use Rattle.wire.proofs.read32.Statement.{statement}
 use Rattle.wire.proofs.read32.Tie as tie
 
 returns : tie.Need-returns
-returns c = Numbers.reads-past 4 _ _ (c .if1 .taken)
+returns c = Numbers.reads-past BigEndian 4 _ _ (c .if1 .taken)
 
 sub-if2 : tie.Need-sub-if2
 sub-if2 c = search needs
 
-read-at-end-requires : tie.Need-read-at-end-requires
-read-at-end-requires c κs = search needs
+read16-requires : tie.Need-read16-requires
+read16-requires c κs = search needs
+
+mul-result : tie.Need-mul-result
+mul-result c = search needs
+
+add-read16 : tie.Need-add-read16
+add-read16 c = search needs
+
+read16-requires-2 : tie.Need-read16-requires-2
+read16-requires-2 c κs = search needs
+
+add-result : tie.Need-add-result
+add-result c = search needs
 
 returns-2 : tie.Need-returns-2
-returns-2 c = search needs
+returns-2 c =
+    let a = c .before .before .before .before .before .args in
+    record { is = omega (arith, Numbers.number-split BigEndian 2 2 (a .s .now) (a .at)); small = omega arith }
 
 shared-slice-read-wide : tie.Need-shared-slice-read-wide
 shared-slice-read-wide c = search needs
@@ -23,8 +38,8 @@ shared-slice-read-wide c = search needs
 wide-requires : tie.Need-wide-requires
 wide-requires c κs = search needs
 
-mul-result : tie.Need-mul-result
-mul-result c = search needs
+mul-result-2 : tie.Need-mul-result-2
+mul-result-2 c = search needs
 
 add-wide : tie.Need-add-wide
 add-wide c = search needs
@@ -35,11 +50,11 @@ shared-slice-read-wide-2 c = search needs
 wide-requires-2 : tie.Need-wide-requires-2
 wide-requires-2 c κs = search needs
 
-mul-result-2 : tie.Need-mul-result-2
-mul-result-2 c = search needs
+mul-result-3 : tie.Need-mul-result-3
+mul-result-3 c = search needs
 
-add-result : tie.Need-add-result
-add-result c = search needs
+add-result-2 : tie.Need-add-result-2
+add-result-2 c = search needs
 
 add-wide-2 : tie.Need-add-wide-2
 add-wide-2 c = search needs
@@ -50,11 +65,11 @@ shared-slice-read-wide-3 c = search needs
 wide-requires-3 : tie.Need-wide-requires-3
 wide-requires-3 c κs = search needs
 
-mul-result-3 : tie.Need-mul-result-3
-mul-result-3 c = search needs
+mul-result-4 : tie.Need-mul-result-4
+mul-result-4 c = search needs
 
-add-result-2 : tie.Need-add-result-2
-add-result-2 c = search needs
+add-result-3 : tie.Need-add-result-3
+add-result-3 c = search needs
 
 add-wide-3 : tie.Need-add-wide-3
 add-wide-3 c = search needs
@@ -65,8 +80,8 @@ shared-slice-read-wide-4 c = search needs
 wide-requires-4 : tie.Need-wide-requires-4
 wide-requires-4 c κs = search needs
 
-add-result-3 : tie.Need-add-result-3
-add-result-3 c = search needs
+add-result-4 : tie.Need-add-result-4
+add-result-4 c = search needs
 
 returns-3 : tie.Need-returns-3
 returns-3 c =
@@ -79,23 +94,27 @@ read32-spec =
     (tie.spec
     returns
     sub-if2
-    read-at-end-requires
+    read16-requires
+    mul-result
+    add-read16
+    read16-requires-2
+    add-result
     returns-2
     shared-slice-read-wide
     wide-requires
-    mul-result
+    mul-result-2
     add-wide
     shared-slice-read-wide-2
     wide-requires-2
-    mul-result-2
-    add-result
+    mul-result-3
+    add-result-2
     add-wide-2
     shared-slice-read-wide-3
     wide-requires-3
-    mul-result-3
-    add-result-2
+    mul-result-4
+    add-result-3
     add-wide-3
     shared-slice-read-wide-4
     wide-requires-4
-    add-result-3
+    add-result-4
     returns-3)

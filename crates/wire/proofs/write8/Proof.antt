@@ -1,7 +1,7 @@
 -- `wire::write8` meets its contract. Assumes nothing.
 use mathlib.Core.Path.{refl, sym}
 use borrow.Author.Needs.{needs}
-use Rattle.wire.specs.Numbers.{bytes, put}
+use Rattle.wire.specs.Numbers.{bytesIn, put}
 use Rattle.wire.proofs.Numbers
 use Rattle.wire.proofs.write8.Statement.{statement}
 use Rattle.wire.proofs.write8.Tie as tie
@@ -19,7 +19,7 @@ same-length : tie.Need-same-length
 same-length c = search needs
 
 returns-2 : tie.Need-returns-2
-unfolding put bytes
+unfolding put bytesIn
 returns-2 c = refl
 
 pub write8-spec : {M : Type 1} → statement M

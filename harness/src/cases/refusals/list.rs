@@ -413,23 +413,44 @@ const HEAD: Must = Must {
         "15 count",
         "15 order",
         "16",
+        "16 low first",
         "15 size",
+        "15 size low first",
         "15 offset",
         "15 record size",
     ],
     order: &[
         (&["29"], &["12"]),
         (&["29", "12"], &["15 cut", "15 version", "15 interlace", "15 count", "15 order"]),
-        (&["29", "12"], &["16", "15 size", "15 offset", "15 record size"]),
-        (&["15 cut", "15 version", "15 interlace", "15 count", "15 order"], &["16"]),
-        (&["16"], &["15 size", "15 offset", "15 record size"]),
+        (&["29", "12"], TYPES),
+        (&["29", "12"], SIZES),
+        (&["15 cut", "15 version", "15 interlace", "15 count", "15 order"], TYPES),
+        (TYPES, SIZES),
     ],
     ..reading(&[Call::ReadVdata, Call::ReadFields, Call::ReadValue], &[], &[])
 };
 
+/// A code of no type, below 16384 and from there on.
+const TYPES: Rules = &["16", "16 low first"];
+
+/// What is judged by the types: a size by the width of its own, in either byte order.
+const SIZES: Rules = &["15 size", "15 size low first", "15 offset", "15 record size"];
+
 /// The rules of a head that is there, but for its count.
-const BAD_HEAD: Rules =
-    &["29", "12", "15 cut", "15 version", "15 interlace", "15 order", "16", "15 size", "15 offset", "15 record size"];
+const BAD_HEAD: Rules = &[
+    "29",
+    "12",
+    "15 cut",
+    "15 version",
+    "15 interlace",
+    "15 order",
+    "16",
+    "16 low first",
+    "15 size",
+    "15 size low first",
+    "15 offset",
+    "15 record size",
+];
 
 const VDATA: Must = reading(
     &[Call::ReadVdata],
@@ -477,16 +498,21 @@ const PACK_VDATA: Must = Must {
         "15 count",
         "15 order",
         "16",
+        "16 low first",
         "15 size",
+        "15 size low first",
         "15 offset",
         "15 record size",
         "14",
     ],
     order: &[
-        (&["15 entries", "15 names", "15 name", "15 class"], &["16", "14"]),
-        (&["15 version", "15 interlace", "15 count", "15 order"], &["16", "14"]),
-        (&["16"], &["15 size", "15 offset", "15 record size", "14"]),
-        (&["15 size", "15 offset", "15 record size"], &["14"]),
+        (&["15 entries", "15 names", "15 name", "15 class"], TYPES),
+        (&["15 entries", "15 names", "15 name", "15 class"], &["14"]),
+        (&["15 version", "15 interlace", "15 count", "15 order"], TYPES),
+        (&["15 version", "15 interlace", "15 count", "15 order"], &["14"]),
+        (TYPES, SIZES),
+        (TYPES, &["14"]),
+        (SIZES, &["14"]),
     ],
     ..packing(&[Call::PackVdata], &[], &[])
 };

@@ -1,6 +1,7 @@
 //! The packing of records. No image is opened, and all places are 0.
 
 use super::ask::{Ask, Rooms, Written};
+use super::types::unknown_types;
 use super::{fault, granted, over, Case, Fault};
 use crate::packing::Record;
 use crate::records::{Array, Dimension, NumberType};
@@ -53,10 +54,11 @@ const LAYOUT: [Fault; 8] = [
     fault("15 order", "an order of 0", [15, 0], |ask| ask.vdata().fields[3] = 0),
 ];
 
-const UNKNOWN_TYPE: [Fault; 1] = [fault("16", "an unknown type", [16, 0], |ask| ask.vdata().fields[0] = 26)];
+const UNKNOWN_TYPE: [Fault; 18] = unknown_types(0);
 
-const SIZES: [Fault; 3] = [
-    fault("15 size", "a wrong size", [15, 0], |ask| ask.vdata().fields[5] = 2),
+const SIZES: [Fault; 4] = [
+    fault("15 size", "a wrong size", [15, 0], |ask| ask.vdata().fields[1] = 4),
+    fault("15 size low first", "a wrong second size", [15, 0], |ask| ask.vdata().fields[5] = 2),
     fault("15 offset", "a wrong offset", [15, 0], |ask| ask.vdata().fields[6] = 4),
     fault("15 record size", "a wrong record size", [15, 0], |ask| ask.vdata().record_size = 8),
 ];
@@ -102,13 +104,13 @@ fn vdatas() -> Vec<Case> {
         interlace: 0,
         records: 2,
         record_size: 6,
-        fields: vec![22, 2, 0, 1, 24, 4, 2, 1],
+        fields: vec![22, 2, 0, 1, 16408, 4, 2, 1],
         name_lengths: vec![1, 2],
         names: b"xdx".to_vec(),
         tail: tail(b"v", b"c"),
     };
     let bytes = b"\x00\x00\x00\x00\x00\x02\x00\x06\x00\x02\
-        \x00\x16\x00\x18\x00\x02\x00\x04\x00\x00\x00\x02\x00\x01\x00\x01\
+        \x00\x16\x40\x18\x00\x02\x00\x04\x00\x00\x00\x02\x00\x01\x00\x01\
         \x00\x01x\x00\x02dx\x00\x01v\x00\x01c\x00\x09\x00\x08\x00\x03\x00\x07";
     in_order(Call::PackVdata, Record::Vdata(record), bytes, &[&LAYOUT, &UNKNOWN_TYPE, &SIZES])
 }

@@ -1,13 +1,13 @@
 //! Vdata heads, by both calls that read them, and Vdata values.
 
 use super::ask::{Ask, Rooms, Written};
+use super::types::{unknown_types, HEAD, TYPE};
 use super::{element_first, fault, granted, over, Case, Fault, UNSTORED};
-use crate::cases::pieces::{file, numbers16, numbers32, text, Image};
+use crate::cases::pieces::{file, hex, numbers16, numbers32, text, vdata_head, Image};
 use crate::tally::Call;
 use hdf4_sys::Field;
 
-/// The slots of head and data, and of a second head where there is one.
-const HEAD: usize = 22;
+/// The slots of the data, and of a second head where there is one.
 const DATA: usize = 34;
 const SECOND_HEAD: usize = 34;
 
@@ -16,11 +16,10 @@ const DATA_TAG: u16 = 1963;
 const EXTENDED_HEAD: u16 = 18346;
 const EXTENDED_DATA: u16 = 18347;
 
-/// Where the numbers of a head stand in it, of the types, sizes, offsets and orders of two fields the first.
+/// Where the numbers of a head stand in it, of the sizes, offsets and orders of two fields the first.
 const INTERLACE: usize = 0;
 const RECORD_SIZE: usize = 6;
 const COUNT: usize = 8;
-const TYPE: usize = 10;
 const SIZE: usize = 14;
 const OFFSET: usize = 18;
 const ORDER: usize = 22;
@@ -45,14 +44,11 @@ const LAYOUT: [Fault; 5] = [
     fault("15 order", "a second order of 0", [15, 22], |ask| ask.image.put16_in(HEAD, ORDER + 2, 0)),
 ];
 
-const UNKNOWN_TYPE: [Fault; 2] = [
-    fault("16", "an unknown type", [16, 22], |ask| ask.image.put16_in(HEAD, TYPE, 26)),
-    fault("16", "an unknown second type", [16, 22], |ask| ask.image.put16_in(HEAD, TYPE + 2, 0)),
-];
+const UNKNOWN_TYPE: [Fault; 18] = unknown_types(22);
 
 const SIZES: [Fault; 4] = [
     fault("15 size", "a wrong size", [15, 22], |ask| ask.image.put16_in(HEAD, SIZE, 4)),
-    fault("15 size", "a wrong second size", [15, 22], |ask| ask.image.put16_in(HEAD, SIZE + 2, 2)),
+    fault("15 size low first", "a wrong second size", [15, 22], |ask| ask.image.put16_in(HEAD, SIZE + 2, 2)),
     fault("15 offset", "a wrong offset", [15, 22], |ask| ask.image.put16_in(HEAD, OFFSET + 2, 4)),
     fault("15 record size", "a wrong record size", [15, 22], |ask| ask.image.put16_in(HEAD, RECORD_SIZE, 8)),
 ];
@@ -76,10 +72,14 @@ const BAD_SECOND: [Fault; 2] = [
     fault("12", "an extended head", [12, 34], |ask| ask.image.put_tag(SECOND_HEAD, EXTENDED_HEAD)),
 ];
 
-const UNKNOWN_TYPES: [Fault; 1] = [fault("16", "an unknown type in both heads", [16, 22], |ask| {
-    ask.image.put16_in(HEAD, TYPE, 26);
-    ask.image.put16_in(SECOND_HEAD, TYPE, 26);
-})];
+const UNKNOWN_TYPES: [Fault; 2] = [
+    fault("16", "type 26 in both heads", [16, 22], |ask| put_type_in_both(ask, 26)),
+    fault("16 low first", "type 16384 + 26 in both heads", [16, 22], |ask| put_type_in_both(ask, 16410)),
+];
+
+fn put_type_in_both(ask: &mut Ask, code: u16) {
+    [HEAD, SECOND_HEAD].into_iter().for_each(|slot| ask.image.put16_in(slot, TYPE, code));
+}
 
 const INDICES: [Fault; 6] = [
     fault("17 record", "record 2 of 2", [17, 0], |ask| ask.indices[0] = 2),
@@ -117,7 +117,8 @@ const NUMBERS: [u64; 12] = [0, 2, 6, 2, 93, 1, 96, 1, 9, 8, 3, 7];
 fn read() -> Case {
     let rooms = Rooms { shorts: 9, longs: 6, ..Rooms::default() };
     let ask = Ask { reference: 1, rooms, ..Ask::on(Call::ReadVdata, vdata()) };
-    let written = Written { shorts: vec![22, 2, 0, 1, 24, 4, 2, 1], longs: vec![86, 1, 89, 2], ..Written::default() };
+    let shorts = vec![22, 2, 0, 1, 16408, 4, 2, 1];
+    let written = Written { shorts, longs: vec![86, 1, 89, 2], ..Written::default() };
     granted("two fields", ask, &NUMBERS, written)
 }
 
@@ -126,7 +127,7 @@ fn read_fields() -> Case {
     let ask = Ask { reference: 1, rooms, ..Ask::on(Call::ReadFields, vdata()) };
     let fields = vec![
         Field { code: 22, size: 2, offset: 0, order: 1, name_offset: 86, name_length: 1 },
-        Field { code: 24, size: 4, offset: 2, order: 1, name_offset: 89, name_length: 2 },
+        Field { code: 16408, size: 4, offset: 2, order: 1, name_offset: 89, name_length: 2 },
     ];
     granted("two fields", ask, &NUMBERS, Written { fields, ..Written::default() })
 }
@@ -205,10 +206,8 @@ fn long_ask(call: Call) -> Ask {
 
 /// A head of one record of so many fields without names, each a signed byte.
 fn long(count: u16) -> Vec<u8> {
-    let columns = [vec![20; count.into()], vec![1; count.into()], (0..count).collect(), vec![1; count.into()]];
-    let names = vec![0; count.into()];
-    let tail = [0, 0, 0, 0, 3, 0];
-    numbers16(&[&[0, 0, 1, count, count], &columns.concat()[..], &names, &tail].concat())
+    let fields: Vec<[u16; 4]> = (0..count).map(|index| [20, 1, index, 1]).collect();
+    vdata_head(0, 1, count, &fields)
 }
 
 fn long_field(index: u16) -> Field {
@@ -216,12 +215,13 @@ fn long_field(index: u16) -> Field {
     Field { code: 20, size: 1, offset: index, order: 1, name_offset, name_length: 0 }
 }
 
-/// Head and data of 1962/1: two records of two fields, of 2 and 4 bytes. The head stands at 58, the data at 105.
+/// Head and data of 1962/1: two records of two fields, of 2 bytes with the high one first, and of 4 bytes with the low one first.
+/// The head stands at 58, the data at 105.
 fn vdata() -> Image {
-    let columns = numbers16(&[22, 24, 2, 4, 0, 2, 1, 1]);
+    let columns = numbers16(&[22, 16408, 2, 4, 0, 2, 1, 1]);
     let start = [numbers16(&[0]), numbers32(&[2]), numbers16(&[6, 2]), columns].concat();
     let names = [text(b"x"), text(b"dx"), text(b"v"), text(b"c")].concat();
     let head = [start, names, numbers16(&[9, 8, 3, 7])].concat();
-    let data = [numbers16(&[1]), numbers32(&[2]), numbers16(&[0xfffe]), numbers32(&[0x8000_0000])].concat();
+    let data = hex("0001 02000000 fffe 00000080");
     file(&[(HEAD_TAG, 1, head), (DATA_TAG, 1, data), (100, 1, b"hub".to_vec())])
 }

@@ -5,7 +5,8 @@ use crate::packing::Piece;
 use crate::random::Random;
 use crate::reader::FREE;
 
-/// How far a number is off. 8,192 sizes of an array or fields of a Vdata make 65,536 bytes, as do 16,384 members of a group.
+/// How far a number is off. 8,192 sizes of an array or fields of a Vdata make 65,536 bytes, as do 16,384 members of a group. A
+/// type that is 16,384 off is of the other byte order, or unknown.
 const STEPS: [i64; 9] = [1, 1, 1, -1, -1, -1, 256, 8192, 16384];
 
 /// Changes a field of a record, most of them counts, lengths and versions in 16 bits, or leaves one out.
