@@ -11,7 +11,7 @@ use lib.Dec.{leb, ltb, eqb}
 use borrow.Author.Tests.{leb-true, leb-false, le-leb, lt-leb, le-ltb, ltb-false, eqb-true, eq-eqb, not-true}
 use Rattle.wire.specs.Numbers.{be, put, Bytes}
 use Rattle.wire.specs.declared.ByteOrder.the-variants.{BigEndian}
-use Rattle.wire.proofs.Numbers.{length-put, bytes-number, bytes-take}
+use Rattle.wire.proofs.Numbers.{length-put, bytes-of-number, bytes-take}
 use Rattle.answer.specs.Search.{any, Hit, hit, miss, first}
 use Rattle.answer.specs.Rules.{Rules, done, rule, AllHold, FirstBroken}
 use Rattle.answer.proofs.Tests.{test, by-test, fails, same?, le?, and-split, and-both, or-split, or-either, or-clear, or-neither, on-true, on-false, not-both}
@@ -340,7 +340,7 @@ module _ (s : List ℕ) (all : Bytes s) (carrying : Carries s) where
       let second : t + 8 + 4 ≡ t + 12 = omega arith in
       let third : t + 8 + 8 ≡ t + 12 + 4 = omega arith in
       ap (put (take (lengthBefore s) s) (placeAltered s)) (rw (oldBytes, k .0) (rw (second, third) at (slot-old s (t + 8) all (omega (arith, carrying .0)))))
-  before-is (inr k) = ap (put (take (lengthBefore s) s) (placeAltered s)) (rw (oldBytes, k .0) (bytes-number BigEndian 4 s (t + 8) all (omega (arith, carrying .0))))
+  before-is (inr k) = ap (put (take (lengthBefore s) s) (placeAltered s)) (rw (oldBytes, k .0) (bytes-of-number BigEndian 4 s (t + 8) all (omega (arith, carrying .0))))
 
   -- the tests of a trailer, and what they say
   abbrev verdict : Bool

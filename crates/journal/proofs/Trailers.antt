@@ -12,7 +12,7 @@ use borrow.Author.Tests.{le-leb, lt-leb, leb-true, eq-eqb, ne-eqb}
 use Rattle.wire.specs.Numbers.{be, bytes, put, part, Bytes}
 use Rattle.wire.specs.declared.ByteOrder.the-variants.{BigEndian}
 use Rattle.wire.specs.Layouts.{read, pack, given, numbers, Fits}
-use Rattle.wire.proofs.Numbers.{length-bytes, number-small, bytes-number, part-add}
+use Rattle.wire.proofs.Numbers.{length-bytes, number-small, bytes-of-number, part-add}
 use Rattle.wire.proofs.Layouts.{put-field, PackedAt, packed-at}
 use Rattle.answer.proofs.Tests.{and-both, and-split}
 use Rattle.directory.specs.Limits.{most-bytes}
@@ -144,7 +144,7 @@ pub slot-old : (s : List ℕ) (p : ℕ) → Bytes s → p + slot-size ≤ length
 slot-old s p b h =
     let two : part s p 8 ≡ part s p 4 ++ part s (p + 4) 4 = part-add s p 4 4 in
     let three : part s p 12 ≡ part s p 8 ++ part s (p + 8) 4 = part-add s p 8 4 in
-    rw (bytes-number BigEndian 4 s p b (omega arith), bytes-number BigEndian 4 s (p + 4) b (omega arith), bytes-number BigEndian 4 s (p + 8) b (omega arith)) (sym (three ∙ ap (λ x. x ++ part s (p + 8) 4) two))
+    rw (bytes-of-number BigEndian 4 s p b (omega arith), bytes-of-number BigEndian 4 s (p + 4) b (omega arith), bytes-of-number BigEndian 4 s (p + 8) b (omega arith)) (sym (three ∙ ap (λ x. x ++ part s (p + 8) 4) two))
 
 -- a slot or a next field was altered
 abbrev pub Sized : ℕ → Type 0
@@ -154,7 +154,7 @@ Sized k = (k ≡ slot-size) ⊎ (k ≡ link-size)
 pub old-there : (s : List ℕ) (p k : ℕ) → Bytes s → p + k ≤ length s → Sized k → oldBytes (changeAt s p k) ≡ part s p k
 unfolding oldBytes pastFirst
 old-there s p k b h (inl e) = ap (λ x. oldBytes (changeAt s p x)) e ∙ slot-old s p b (omega arith) ∙ ap (part s p) (sym e)
-old-there s p k b h (inr e) = ap (λ x. oldBytes (changeAt s p x)) e ∙ bytes-number BigEndian 4 s p b (omega arith) ∙ ap (part s p) (sym e)
+old-there s p k b h (inr e) = ap (λ x. oldBytes (changeAt s p x)) e ∙ bytes-of-number BigEndian 4 s p b (omega arith) ∙ ap (part s p) (sym e)
 
 pub length-old : (c : Change) → Sized (c .altered) → length (oldBytes c) ≡ c .altered
 unfolding oldBytes

@@ -171,7 +171,7 @@ types-are = (
   (refl, refl, refl, refl, refl, refl),
   λ code z.
       row-none (baseType code) types (λ i.
-      elim (base-is code) [ inl e ↦ z (baseType code) i .0 e | inr e ↦ z (baseType code) i .1 e ]),
+      elim (base-is code) [ inl (e, o) ↦ z (baseType code) i .0 e | inr (e, o) ↦ z (baseType code) i .1 e ]),
 )
 
 -- a code below 16384 is what it was before the other byte order came

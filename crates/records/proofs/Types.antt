@@ -1,7 +1,7 @@
 -- Number types by their codes: 16384 taken off, then a row of the table at a time. Assumes nothing.
 use Prim.Native.Nat.{ℕ, _+_, _-_, _<_, _≤_}
 use native.Mathlib.Omega.{arith}
-use mathlib.Core.Path.{_≡_, refl, sym, ap, _∙_}
+use mathlib.Core.Path.{_≡_, refl, sym, ap, subst, _∙_}
 use mathlib.Core.Logic.{_↔_, _⊎_, inl, inr}
 use mathlib.Core.List.{List, [], _∷_}
 use mathlib.Core.Bool.{true}
@@ -60,12 +60,12 @@ base-low code h = let t = lt-leb 16384 code h in (rw (baseType, t), rw (byteOrde
 pub base-added : (code : ℕ) → (baseType (code + 16384) ≡ code) × (byteOrderOf (code + 16384) ≡ LittleEndian)
 base-added code = let b = base-high (code + 16384) (omega arith) in (b .0 ∙ omega arith, b .1)
 
--- a code is its type's own, or that with 16384 added
-pub base-is : (code : ℕ) → (code ≡ baseType code) ⊎ (code ≡ baseType code + 16384)
+-- a code is its type's own, or that with 16384 added, and this tells its byte order
+pub base-is : (code : ℕ) → ((code ≡ baseType code) × (byteOrderOf code ≡ BigEndian)) ⊎ ((code ≡ baseType code + 16384) × (byteOrderOf code ≡ LittleEndian))
 base-is code =
     elim (test (leb 16384 code)) [
-      | inl h ↦ let l = leb-true 16384 code h in inr (omega (arith, base-high code l .0))
-      | inr h ↦ inl (sym (base-low code (leb-false 16384 code h) .0))
+      | inl h ↦ let l = leb-true 16384 code h in let b = base-high code l in inr (omega (arith, b .0), b .1)
+      | inr h ↦ let b = base-low code (leb-false 16384 code h) in inl (sym (b .0), b .1)
     ]
 
 -- what depends on a code's type alone is the same where the type is
@@ -220,13 +220,9 @@ big-endian-low (big-endian t) = type-row t .2
 -- a code by the facts of its type's own
 pub code-of : (code kind width : ℕ) → TypeIs (baseType code) kind width → CodeIs code (byteOrderOf code) kind width
 code-of code kind width t =
-    elim (test (leb 16384 code)) [
-      | inl h ↦
-          let high = leb-true 16384 code h in
-          let b = base-high code high in
-          let added : code ≡ baseType code + 16384 = omega (arith, b .0) in
-          rw (b .1) (little-endian added t)
-      | inr h ↦ let b = base-low code (leb-false 16384 code h) in rw (b .1) (big-endian (rw (b .0) at t))
+    elim (base-is code) [
+      | inl (own, order) ↦ rw order (big-endian (subst (λ k. TypeIs k kind width) (sym own) t))
+      | inr (added, order) ↦ rw order (little-endian added t)
     ]
 
 code-known : (code : ℕ) → 1 ≤ widthOf code → KnownType code

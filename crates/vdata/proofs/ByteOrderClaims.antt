@@ -1,16 +1,15 @@
 -- What a reader may rely on of the values of little-endian types: each is the big-endian value of the reversed bytes, and what is answered are
 -- the element's own bytes in their order. Assumes nothing.
 use Prim.Native.Nat.{ℕ, _+_, _<_, _≤_}
-use native.Mathlib.Nat.{add-zero}
 use native.Mathlib.Omega.{arith}
 use mathlib.Core.Path.{_≡_, sym, ap, _∙_}
 use mathlib.Core.List.{List, [], _∷_, reverse}
 use lib.ListN.{length, getD}
 use Rattle.answer.specs.Answer.{grant}
-use Rattle.wire.specs.Numbers.{numberIn, bytesIn, be, part, Bytes}
+use Rattle.wire.specs.Numbers.{bytesIn, be, part, Bytes}
 use Rattle.wire.specs.declared.ByteOrder.{ByteOrder}
 use Rattle.wire.specs.declared.ByteOrder.the-variants.{BigEndian, LittleEndian}
-use Rattle.wire.proofs.Numbers.{number-part, number-reversed}
+use Rattle.wire.proofs.Numbers.{number-reversed}
 use Rattle.directory.specs.Lookup.{find}
 use Rattle.records.specs.Readings.{recordBytes}
 use Rattle.records.specs.Types.{types, rowOf, byteOrderOf, widthOf, kindOf, CodeIs}
@@ -22,6 +21,7 @@ use Rattle.vhead.proofs.Heads.{placed, head-is}
 use Rattle.vdata.specs.Patterns.{valueBy, valueAt, valueKind, valueBits}
 use Rattle.vdata.specs.Values.{placeOf, valueIn, valueOf}
 use Rattle.vdata.specs.ValueRules.{LiesAt, Readable}
+use Rattle.vdata.proofs.Patterns.{value-of-bytes}
 use Rattle.vdata.proofs.Values.{granted-readable, readable-granted, values-bytes}
 use Rattle.vdata.proofs.ValueRules.{lies-inside, lies-there, type-known, lies-once}
 use Rattle.vdata.proofs.ValueClaims.{value-bytes}
@@ -42,14 +42,6 @@ module _ (code : ℕ) (low : code < 16384) (v : List ℕ) (at : ℕ) where
       let high : byteOrderOf (code + 16384) ≡ LittleEndian = base-added code .1 in
       rw (same-width _ code b, same-kind _ code b, high, base-low code low .1)
       (ap (valueBy (kindOf code) (widthOf code)) (number-reversed (widthOf code) v at l))
-
-  -- and a value is told by its own bytes alone
-  value-of-bytes : at + widthOf code ≤ length v → valueAt code v at ≡ valueAt code (part v at (widthOf code)) 0
-  unfolding valueAt
-  value-of-bytes l =
-      let order = byteOrderOf code in
-      ap (valueBy (kindOf code) (widthOf code))
-      (sym (number-part order (widthOf code) v at (widthOf code) 0 (omega arith) l ∙ ap (numberIn order (widthOf code) v) (add-zero at)))
 
 -- ---- What the call answers
 
@@ -100,7 +92,7 @@ value-either-order s t ref r i c own p j d x y kind width at also big little lie
     let second : also + widthOf code ≤ length w = omega (arith, inside t own p j d y) in
     let same : valueAt (codeOwn t own p j d y) w (placeOwn t own p j d y) ≡ valueAt code v (placeOwn s ref r i c x) =
     ap (λ k. valueAt k w (placeOwn t own p j d y)) little ∙ ap (valueAt (code + 16384) w) (sym there) ∙ value-reversed code low w also second
-    ∙ ap (λ b. valueAt code b 0) (rw (← is) at (sym reversed)) ∙ sym (value-of-bytes code low v at first) ∙ ap (valueAt code v) here in
+    ∙ ap (λ b. valueAt code b 0) (rw (← is) at (sym reversed)) ∙ sym (value-of-bytes code v at first) ∙ ap (valueAt code v) here in
     answered t own p j d y ∙ ap (λ k. grant (valueKind k ∷ valueBits k ∷ [])) same ∙ sym (answered s ref r i c x)
 
 -- the bits of a value that is given, laid down in its type's width and byte order, are its own bytes

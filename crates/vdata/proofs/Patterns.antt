@@ -1,9 +1,10 @@
 -- Laws of the values of patterns: the pattern of a type's value, NaNs, signed numbers in 64 bits, and the bits of a value. Assumes nothing.
 use Prim.Native.Nat.{ℕ, _<_, _≤_, _*_, _%_, zero, suc, _+_, _^_, _-_, min}
 use native.Mathlib.Omega.{arith}
-use native.Mathlib.Nat.{mod-eq-of-lt, mul-suc, mul-add-mod-self-left}
+use native.Mathlib.Nat.{add-zero, mod-eq-of-lt, mul-suc, mul-add-mod-self-left}
 use mathlib.Core.Path.{_≡_, _∙_, refl, sym, ap, subst}
 use mathlib.Core.List.{List}
+use lib.ListN.{length}
 use mathlib.Core.Bool.{true, false, Bool, cond, not}
 use mathlib.Core.Logic.{inl, inr}
 use lib.Ieee.{Format, ones, hid, top, ofBits, toBits, nanBits, binary32, binary64}
@@ -14,9 +15,9 @@ use lib.Signed.{mag}
 use mir.Syntax.{w64}
 use mir.Val.{SFits}
 use borrow.Author.Tests.{lt-ltb, le-ltb}
-use Rattle.wire.specs.Numbers.{numberIn, Bytes, ReadsIn}
+use Rattle.wire.specs.Numbers.{numberIn, part, Bytes, ReadsIn}
 use Rattle.wire.specs.declared.ByteOrder.{ByteOrder}
-use Rattle.wire.proofs.Numbers.{number-small}
+use Rattle.wire.proofs.Numbers.{number-small, number-part}
 use Rattle.answer.proofs.Tests.{test}
 use Rattle.records.specs.Types.{baseType, byteOrderOf, widthOf, kindOf, signed, unsigned, float, TypeRow, types, rowOf}
 use Rattle.records.proofs.Types.{width-by, kind-by, kind-unsigned, row-is}
@@ -45,6 +46,14 @@ module _ (code base : ℕ) (is : base ≡ baseType code) (v : List ℕ) (at n : 
   pub value-unsigned : (base ≡ 20 → ⊥) → (base ≡ 22 → ⊥) → (base ≡ 24 → ⊥) → (base ≡ 5 → ⊥) → (base ≡ 6 → ⊥) → Unsigned n ≡ valueAt code v at
   unfolding valueAt valueBy
   value-unsigned a b c d e = rw (r .is, kind-unsigned code base is a b c d e)
+
+-- a value is told by its own bytes alone
+pub value-of-bytes : (code : ℕ) (v : List ℕ) (at : ℕ) → at + widthOf code ≤ length v → valueAt code v at ≡ valueAt code (part v at (widthOf code)) 0
+unfolding valueAt
+value-of-bytes code v at l =
+    let n = numberIn (byteOrderOf code) (widthOf code) in
+    ap (valueBy (kindOf code) (widthOf code))
+    (sym (number-part (byteOrderOf code) (widthOf code) v at (widthOf code) 0 (omega arith) l ∙ ap (n v) (add-zero at)))
 
 -- ---- Whether a pattern is a NaN's, by the test that the code makes
 

@@ -11,7 +11,7 @@ use Rattle.answer.specs.Answer.{grant, refuse}
 use Rattle.answer.specs.Rules.{done, AllHold, FirstBroken}
 use Rattle.answer.proofs.Rules.{broken-then, first-then, then-broken, broken-below}
 use Rattle.wire.specs.Numbers.{numberIn, bytesIn, part, Bytes}
-use Rattle.wire.proofs.Numbers.{bytes-mod, bytes-number}
+use Rattle.wire.proofs.Numbers.{bytes-mod, bytes-of-number}
 use Rattle.directory.specs.Opening.{openOf}
 use Rattle.directory.specs.Lookup.{find}
 use Rattle.directory.specs.Rules.{Unstored}
@@ -50,7 +50,7 @@ module _ (code : ℕ) (known : 1 ≤ widthOf code) (v : List ℕ) (bytes : Bytes
   pub value-bytes : at + widthOf code ≤ length v → bytesIn (byteOrderOf code) (widthOf code) (valueBits (valueAt code v at)) ≡ part v at (widthOf code)
   value-bytes l =
       sym (bytes-mod (byteOrderOf code) (widthOf code) (valueBits (valueAt code v at)))
-      ∙ ap (bytesIn (byteOrderOf code) (widthOf code)) value-bits ∙ bytes-number (byteOrderOf code) (widthOf code) v at bytes l
+      ∙ ap (bytesIn (byteOrderOf code) (widthOf code)) value-bits ∙ bytes-of-number (byteOrderOf code) (widthOf code) v at bytes l
 
 -- ---- Where a value lies
 

@@ -1,8 +1,8 @@
 -- What a reader may rely on of heads whose types are of either byte order: they are judged alike, and packing keeps each type's code. Assumes nothing.
-use Prim.Native.Nat.{ℕ, zero, suc, _+_, _*_, _<_, _≤_}
+use Prim.Native.Nat.{ℕ, _+_, _*_, _<_, _≤_}
 use native.Mathlib.Nat.{zero-add}
 use native.Mathlib.Omega.{arith}
-use mathlib.Core.Path.{_≡_, refl, sym, ap, _∙_}
+use mathlib.Core.Path.{_≡_, sym, ap, _∙_}
 use mathlib.Core.List.{List}
 use lib.ListN.{length}
 use Rattle.wire.specs.Numbers.{be, part, Bytes}
@@ -11,17 +11,15 @@ use Rattle.wire.specs.declared.ByteOrder.the-variants.{BigEndian}
 use Rattle.wire.proofs.Numbers.{number-part}
 use Rattle.directory.specs.Lookup.{find}
 use Rattle.records.specs.Readings.{recordBytes}
-use Rattle.records.specs.Types.{baseType}
-use Rattle.records.proofs.Types.{same-width}
 use Rattle.records.proofs.Readings.{record-granted}
 use Rattle.vset.specs.Columns.{every}
 use Rattle.vset.specs.Tails.{namesEnd}
 use Rattle.vset.proofs.Tails.{endingOf, names-low}
 use Rattle.vhead.specs.Limits.{head-tag}
-use Rattle.vhead.specs.Heads.{head, headIn, fieldAt, fieldsFrom, rowAt, ordered, typed, sized, fieldsFault, headFault, headFields, headNames, headAt, headWithin, headOf, headBytes, headPackFault}
-use Rattle.vhead.specs.HeadRules.{typeOf, fieldCount}
-use Rattle.vhead.specs.declared.field.Numbers.{Numbers}
+use Rattle.vhead.specs.Heads.{head, headIn, fieldAt, rowAt, headFault, headFields, headNames, headAt, headWithin, headOf, headBytes, headPackFault}
+use Rattle.vhead.specs.HeadRules.{typeOf, fieldCount, Alike}
 use Rattle.vhead.specs.declared.head.Start.{Start}
+use Rattle.vhead.proofs.HeadsJudged.{fields-alike}
 use Rattle.vhead.proofs.HeadsNamed.{partsAt}
 use Rattle.vhead.proofs.Heads.{head-is, head-ends}
 use Rattle.vhead.proofs.HeadsRead.{head-passed}
@@ -29,47 +27,6 @@ use Rattle.vhead.proofs.HeadsBack.{startIn, tail-on}
 use Rattle.vhead.proofs.HeadClaims.{head-packs}
 
 -- ---- Judged alike
-
--- two fields have the same numbers, but for the byte order of their types
-pub record Alike (f g : Numbers) : Type 0 where
-  pub type : baseType (f .code) ≡ baseType (g .code)
-  pub size : f .size ≡ g .size
-  pub offset : f .offset ≡ g .offset
-  pub order : f .order ≡ g .order
-
-module _ (f g : ℕ → Numbers) where
-  abbrev AlikeFrom : ℕ → ℕ → Type 0
-  AlikeFrom n i = (k : ℕ) → k < n → Alike (f (i + k)) (g (i + k))
-
-  first-alike : (n i : ℕ) → AlikeFrom (suc n) i → Alike (f i) (g i)
-  first-alike n i h = let z : i + 0 ≡ i = omega arith in rw z at (h 0 (omega arith))
-
-  rest-alike : (n i : ℕ) → AlikeFrom (suc n) i → AlikeFrom n (i + 1)
-  rest-alike n i h k l = let z : i + (k + 1) ≡ i + 1 + k = omega arith in rw z at (h (k + 1) (omega arith))
-
-  ordered-alike : (n i : ℕ) → AlikeFrom n i → ordered (fieldsFrom f n i) ≡ ordered (fieldsFrom g n i)
-  unfolding fieldsFrom ordered
-  ordered-alike zero i h = refl
-  ordered-alike (suc n) i h = rw (first-alike n i h .order, ordered-alike n (i + 1) (rest-alike n i h))
-
-  typed-alike : (n i : ℕ) → AlikeFrom n i → typed (fieldsFrom f n i) ≡ typed (fieldsFrom g n i)
-  unfolding fieldsFrom typed
-  typed-alike zero i h = refl
-  typed-alike (suc n) i h =
-      rw (same-width (f i .code) (g i .code) (first-alike n i h .type), typed-alike n (i + 1) (rest-alike n i h))
-
-  sized-alike : (rs n i sum : ℕ) → AlikeFrom n i → sized rs sum (fieldsFrom f n i) ≡ sized rs sum (fieldsFrom g n i)
-  unfolding fieldsFrom sized
-  sized-alike rs zero i sum h = refl
-  sized-alike rs (suc n) i sum h =
-      let a = first-alike n i h in
-      rw (same-width (f i .code) (g i .code) (a .type), a .size, a .offset, a .order, sized-alike rs n (i + 1) (sum + g i .size) (rest-alike n i h))
-
-  fields-alike : (rs n : ℕ) → ((i : ℕ) → i < n → Alike (f i) (g i)) → fieldsFault rs (fieldsFrom f n 0) ≡ fieldsFault rs (fieldsFrom g n 0)
-  unfolding fieldsFault
-  fields-alike rs n h =
-      let a : AlikeFrom n 0 = λ k l. rw zero-add (h k l) in
-      rw (ordered-alike n 0 a, typed-alike n 0 a, sized-alike rs n 0 0 a)
 
 -- reading: the bytes of two heads that differ in the byte orders of their types alone
 pub head-either-order : (e t : List ℕ) → length t ≡ length e → headIn t ≡ headIn e

@@ -1,13 +1,12 @@
 -- Laws of heads of Vdatas read and packed in turn: what was read is packed as it stood, and what was packed is read as it was. Assumes nothing.
 use Prim.Native.Nat.{ℕ, zero, suc, _+_, _*_, _-_, _<_, _≤_}
-use native.Mathlib.Nat.{mul-suc, mul-zero}
 use native.Mathlib.Omega.{arith}
 use mathlib.Core.Path.{_≡_, refl, sym, ap, _∙_}
 use mathlib.Core.List.{List, [], _∷_, _++_}
 use lib.ListN.{length, getD, drop, length-append}
 use Rattle.wire.specs.Numbers.{be, part, Bytes}
 use Rattle.wire.specs.Layouts.{read, extent, numbers, pack, given, numbersAt, Fits}
-use Rattle.wire.proofs.Layouts.{length-numbersAt, pack-numbers, PackedAt, packed-at}
+use Rattle.wire.proofs.Layouts.{length-numbersAt, number-at, pack-numbers, PackedAt, packed-at}
 use Rattle.vset.specs.Limits.{only-version}
 use Rattle.vset.specs.Columns.{every}
 use Rattle.vset.specs.Tails.{tail, tailNumbers, namesEnd}
@@ -80,20 +79,12 @@ module _ (e : List ℕ) where
 
 -- ---- Fields
 
-getD-numbersAt : (width count : ℕ) (e : List ℕ) (at i : ℕ) → i < count → getD (numbersAt width count e at) i 0 ≡ be width e (at + width * i)
-unfolding numbersAt
-getD-numbersAt width zero e at i h = absurd (omega arith)
-getD-numbersAt width (suc count) e at zero h = let a : at ≡ at + width * 0 = omega (arith, mul-zero width) in ap (be width e) a
-getD-numbersAt width (suc count) e at (suc i) h =
-    let a : at + width + width * i ≡ at + width * suc i = omega (arith, mul-suc width i) in
-    getD-numbersAt width count e (at + width) i (omega arith) ∙ ap (be width e) a
-
 -- fields are read as their rows have them
 module _ (e rows : List ℕ) (n : ℕ) (h : Head) (first : numbersAt 2 n e (h .types) ≡ every 0 4 n rows) (second : numbersAt 2 n e (h .sizes) ≡ every 1 4 n rows)
     (third : numbersAt 2 n e (h .offsets) ≡ every 2 4 n rows) (fourth : numbersAt 2 n e (h .orders) ≡ every 3 4 n rows) where
   entry : (at k place i : ℕ) → numbersAt 2 n e at ≡ every k 4 n rows → i < n → k + 4 * i ≡ place → be 2 e (at + 2 * i) ≡ getD rows place 0
   entry at k place i q m z =
-      sym (getD-numbersAt 2 n e at i m) ∙ ap (λ l. getD l i 0) q ∙ getD-every k 4 n rows i m ∙ ap (λ j. getD rows j 0) z
+      sym (number-at 2 n e at i m) ∙ ap (λ l. getD l i 0) q ∙ getD-every k 4 n rows i m ∙ ap (λ j. getD rows j 0) z
 
   same-row : (i : ℕ) → i < n → fieldAt e h i ≡ rowAt rows i
   same-row i m =

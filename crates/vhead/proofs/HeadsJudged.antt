@@ -1,4 +1,4 @@
--- Laws of the rules of fields: judging them one by one, what they tell of a field, and sums of lengths. Assumes nothing.
+-- Laws of the rules of fields: judging them one by one, what they tell of a field, sums of lengths, and that the byte order of a type does not count. Assumes nothing.
 use Prim.Native.Nat.{ℕ, suc, _+_, _*_, _-_, _<_, _≤_, zero}
 use native.Mathlib.Nat.{mul-le-mul, zero-add}
 use native.Mathlib.Omega.{arith}
@@ -14,7 +14,9 @@ use borrow.Author.Tests.{eqb-true, leb-true}
 use Rattle.answer.proofs.Tests.{zero?, and-split}
 use Rattle.answer.proofs.Search.{passed}
 use Rattle.records.specs.Types.{widthOf}
+use Rattle.records.proofs.Types.{same-width}
 use Rattle.vhead.specs.Heads.{fieldsFrom, ordered, typed, sized, fieldsFault, total}
+use Rattle.vhead.specs.HeadRules.{Alike}
 use Rattle.vhead.specs.Steps.{judge, judgeAll, verdict}
 use Rattle.vhead.specs.declared.field.Numbers.{Numbers}
 use Rattle.vhead.specs.declared.head.Judged.{Judged}
@@ -163,3 +165,23 @@ total-next lengths i h = rw (add-one, drop-cons lengths i 0 h)
 pub total-none : (lengths : List ℕ) (i : ℕ) → length lengths ≤ i → total (drop i lengths) ≡ 0
 unfolding total
 total-none lengths i h = rw (drop-of-length-le lengths {i = i} h)
+
+-- ---- Types of either byte order
+
+judge-alike : (j : Judged) (f g : Numbers) → Alike f g → judge j f ≡ judge j g
+judge-alike j f g a = rw (same-width (f .code) (g .code) (a .type), a .size, a .offset, a .order)
+
+judged-alike : (f g : ℕ → Numbers) (n i : ℕ) (j : Judged) → ((k : ℕ) → i ≤ k → k < i + n → Alike (f k) (g k))
+    → judgeAll j (fieldsFrom f n i) ≡ judgeAll j (fieldsFrom g n i)
+unfolding judgeAll fieldsFrom
+judged-alike f g zero i j h = refl
+judged-alike f g (suc n) i j h =
+    ap (λ k. judgeAll k (fieldsFrom f n (i + 1))) (judge-alike j (f i) (g i) (h i (omega arith) (omega arith)))
+    ∙ judged-alike f g n (i + 1) (judge j (g i)) (λ k l u. h k (omega arith) (omega arith))
+
+pub fields-alike : (f g : ℕ → Numbers) (size n : ℕ) → ((i : ℕ) → i < n → Alike (f i) (g i))
+    → fieldsFault size (fieldsFrom f n 0) ≡ fieldsFault size (fieldsFrom g n 0)
+fields-alike f g size n h =
+    sym (verdict-all size (fieldsFrom f n 0))
+    ∙ ap (λ j. verdict j size) (judged-alike f g n 0 fresh (λ k l u. h k (omega arith)))
+    ∙ verdict-all size (fieldsFrom g n 0)

@@ -9,8 +9,9 @@ use Rattle.wire.specs.Numbers.{be}
 use Rattle.wire.specs.Layouts.{read}
 use Rattle.wire.specs.declared.ByteOrder.{ByteOrder}
 use Rattle.records.specs.RecordRules.{recordRules}
-use Rattle.records.specs.Types.{CodeIs, KnownType}
+use Rattle.records.specs.Types.{baseType, CodeIs, KnownType}
 use Rattle.vhead.specs.Heads.{head}
+use Rattle.vhead.specs.declared.field.Numbers.{Numbers}
 
 -- ---- The numbers of a head, in its bytes
 
@@ -81,3 +82,12 @@ headReadRules s ref fields names =
 -- the same where there is room for so many fields
 abbrev pub headWithinRules : List ℕ → ℕ → ℕ → Rules
 headWithinRules s ref room = recordRules s 1962 ref (λ p e. headRules p e (rule 14 0 (fieldCount e ≤ room) done))
+
+-- ---- Byte orders
+
+-- two fields have the same numbers, but for the byte order of their types
+pub record Alike (f g : Numbers) : Type 0 where
+  pub type : baseType (f .code) ≡ baseType (g .code)
+  pub size : f .size ≡ g .size
+  pub offset : f .offset ≡ g .offset
+  pub order : f .order ≡ g .order

@@ -9,7 +9,7 @@ use lib.ListN.{length, getD, take, drop, take-append-drop, length-append, List·
 use lib.Seq.{length-take-le, take-at, drop-at, take-length, drop-cons, getD-append-add}
 use Rattle.wire.specs.Numbers.{be, bytes, put, part, Bytes}
 use Rattle.wire.specs.declared.ByteOrder.the-variants.{BigEndian}
-use Rattle.wire.proofs.Numbers.{number-small, number-one, number-holds, bytes-number, length-bytes, put-put, part-add}
+use Rattle.wire.proofs.Numbers.{number-small, number-one, number-holds, bytes-of-number, length-bytes, put-put, part-add}
 use Rattle.wire.specs.Layouts.{Layout, end, number, run, read, extent, numbers, pack, given, numbersAt, bytesEach, Small, Fits}
 
 -- ---- Parts
@@ -31,7 +31,6 @@ length-bytesEach width [] = sym (mul-zero width)
 length-bytesEach width (x ∷ xs) =
     length-append (bytes width x) (bytesEach width xs) ∙ rw (length-bytes, length-bytesEach width xs, mul-suc) (omega arith)
 
--- the first of those from the i-th on, then the rest: what a loop does at i
 -- the k-th number of a run
 pub number-at : (width count : ℕ) (e : List ℕ) (at k : ℕ) → k < count → getD (numbersAt width count e at) k 0 ≡ be width e (at + width * k)
 unfolding numbersAt
@@ -41,6 +40,7 @@ number-at width (suc count) e at (suc k) h =
     let a : at + width + width * k ≡ at + width * suc k = rw mul-suc (omega arith) in
     number-at width count e (at + width) k (omega arith) ∙ ap (be width e) a
 
+-- the first of those from the i-th on, then the rest: what a loop does at i
 pub numbersAt-next : (width count : ℕ) (e : List ℕ) (at i : ℕ) → i < count
     → numbersAt width (count - i) e (at + width * i) ≡ be width e (at + width * i) ∷ numbersAt width (count - (i + 1)) e (at + width * (i + 1))
 unfolding numbersAt
@@ -87,7 +87,7 @@ unfolding numbersAt bytesEach part
 bytesEach-numbersAt width zero e at b h = rw (mul-zero, part)
 bytesEach-numbersAt width (suc count) e at b h =
     let n : width * suc count ≡ width + width * count = rw mul-suc (omega arith) in
-    rw (bytes-number BigEndian width e at b (omega arith), bytesEach-numbersAt width count e (at + width) b (omega arith), n) (sym (part-add e at width (width * count)))
+    rw (bytes-of-number BigEndian width e at b (omega arith), bytesEach-numbersAt width count e (at + width) b (omega arith), n) (sym (part-add e at width (width * count)))
 
 -- the numbers of a run before others
 pub take-run : (width count : ℕ) (e : List ℕ) (at : ℕ) (more : List ℕ) → take count (numbersAt width count e at ++ more) ≡ numbersAt width count e at
@@ -148,7 +148,7 @@ module _ {A : Type 0} where
       let next = then (be width e at) in
       let l = at-most next e (at + width) in
       let n : extent next e (at + width) - at ≡ width + (extent next e (at + width) - (at + width)) = omega arith in
-      rw (n, part-add e at width (extent next e (at + width) - (at + width)), bytes-number BigEndian width e at b (omega arith), pack-numbers (then (be width e at)) e (at + width) b h)
+      rw (n, part-add e at width (extent next e (at + width) - (at + width)), bytes-of-number BigEndian width e at b (omega arith), pack-numbers (then (be width e at)) e (at + width) b h)
   pack-numbers (run width count then) e at b h =
       let next = then at in
       let l = at-most next e (at + width * count) in

@@ -306,17 +306,17 @@ part-beside : (order : ByteOrder) (high low : ℕ) (s : List ℕ) (at : ℕ)
 part-beside BigEndian high low s at = part-add s at high low
 part-beside LittleEndian high low s at = rw (add-comm high low) (part-add s at low high)
 
-pub bytes-number : (order : ByteOrder) (k : ℕ) (s : List ℕ) (at : ℕ) → Bytes s → at + k ≤ length s → bytesIn order k (numberIn order k s at) ≡ part s at k
+pub bytes-of-number : (order : ByteOrder) (k : ℕ) (s : List ℕ) (at : ℕ) → Bytes s → at + k ≤ length s → bytesIn order k (numberIn order k s at) ≡ part s at k
 unfolding numberIn bytesIn
-bytes-number order zero s at b h = sym (part-none s at)
-bytes-number order (suc k) s at b h =
+bytes-of-number order zero s at b h = sym (part-none s at)
+bytes-of-number order (suc k) s at b h =
     let w = inside order k at in
     let n = numberIn order k s (highAt order 1 at) in
     let g = getD s (lowAt order k at) 0 in
     let q : (n * 256 + g) / 256 ≡ n = omega (arith, b (lowAt order k at)) in
     let r : (n * 256 + g) % 256 ≡ g = omega (arith, b (lowAt order k at)) in
     let own : part s (lowAt order k at) 1 ≡ g ∷ [] = part-one s (lowAt order k at) (omega (arith, w .1)) in
-    rw (q, r, bytes-number order k s (highAt order 1 at) b (omega (arith, w .3)), ← own) (sym (part-beside order k 1 s at) ∙ ap (part s at) (add-one k))
+    rw (q, r, bytes-of-number order k s (highAt order 1 at) b (omega (arith, w .3)), ← own) (sym (part-beside order k 1 s at) ∙ ap (part s at) (add-one k))
 
 -- ---- Bytes by themselves, and reversed
 
