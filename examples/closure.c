@@ -1,5 +1,5 @@
 /* Adds a road closure to a small file in memory, finds, views and copies it, and takes it back: the file is then as it was,
- * byte for byte.
+ * byte for byte. A second desk can neither add it again nor take it back.
  *
  *     cc -std=c99 -Iinclude examples/closure.c target/staticlib/libhdf4.a -o closure && ./closure
  */
@@ -9,6 +9,10 @@
 #include <string.h>
 
 #include "hdf4.h"
+
+/* The desks that mark the file. A program that edits it alone names desk 0. */
+#define FIRST_DESK 1
+#define SECOND_DESK 2
 
 #define TAG 40000
 #define REFERENCE 5
@@ -44,6 +48,13 @@ static void check(int holds, const char *fault)
     exit(1);
 }
 
+/* Ends the program unless a call was refused by this rule. */
+static void check_refused(hdf4_edit_answer answer, uint64_t rule)
+{
+    check(answer.number == rule, "a call was not refused");
+    printf("refused: %s (number %" PRIu64 ", place %" PRIu64 ")\n", hdf4_refusal_name(answer.number), answer.number, answer.place);
+}
+
 /* Finds, views and copies the closure. */
 static void read_closure(const uint8_t *image, size_t n)
 {
@@ -64,22 +75,26 @@ static void read_closure(const uint8_t *image, size_t n)
     check(copied.length == SIZE && memcmp(out, text, SIZE) == 0, "the copy has other bytes");
 }
 
+/* The second desk tries to add the closure again and to take it back. Both are refused, and nothing is written. */
+static void try_second_desk(uint8_t *buffer, size_t capacity, uint64_t n)
+{
+    check_refused(hdf4_add(buffer, capacity, n, SECOND_DESK, TAG, REFERENCE, text, SIZE), HDF4_PRESENT);
+    check_refused(hdf4_undo(buffer, capacity, n, SECOND_DESK), HDF4_OTHER_DESK);
+}
+
 int main(void)
 {
     uint8_t buffer[sizeof start + SIZE + HDF4_EDIT_ROOM] = {0};
     memcpy(buffer, start, sizeof start);
 
-    hdf4_edit_answer added = hdf4_add(buffer, sizeof buffer, sizeof start, TAG, REFERENCE, text, SIZE);
+    hdf4_edit_answer added = hdf4_add(buffer, sizeof buffer, sizeof start, FIRST_DESK, TAG, REFERENCE, text, SIZE);
     need("hdf4_add", added.number, added.place);
     printf("added: %zu bytes became %" PRIu64 "\n", sizeof start, added.length);
     read_closure(buffer, added.length);
 
-    /* A second closure under the same reference is refused, and nothing is written. */
-    hdf4_edit_answer again = hdf4_add(buffer, sizeof buffer, added.length, TAG, REFERENCE, text, SIZE);
-    check(again.number == HDF4_PRESENT, "a second closure was not refused");
-    printf("refused: %s (number %" PRIu64 ", place %" PRIu64 ")\n", hdf4_refusal_name(again.number), again.number, again.place);
+    try_second_desk(buffer, sizeof buffer, added.length);
 
-    hdf4_edit_answer undone = hdf4_undo(buffer, sizeof buffer, added.length);
+    hdf4_edit_answer undone = hdf4_undo(buffer, sizeof buffer, added.length, FIRST_DESK);
     need("hdf4_undo", undone.number, undone.place);
     check(undone.length == sizeof start && memcmp(buffer, start, sizeof start) == 0, "the file is not as it was");
     printf("taken back: %" PRIu64 " bytes, as they were\n", undone.length);

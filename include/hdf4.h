@@ -22,10 +22,10 @@ extern "C" {
 #endif
 
 /* The version of the library that this header is of. */
-#define HDF4_VERSION "0.2.3"
+#define HDF4_VERSION "0.3.0"
 #define HDF4_VERSION_MAJOR 0
-#define HDF4_VERSION_MINOR 2
-#define HDF4_VERSION_PATCH 3
+#define HDF4_VERSION_MINOR 3
+#define HDF4_VERSION_PATCH 0
 
 /* The most bytes that an image has. */
 #define HDF4_MOST_BYTES 2147483647
@@ -34,7 +34,7 @@ extern "C" {
 #define HDF4_MOST_ELEMENTS 4096
 
 /* The most bytes by which an edit makes an image longer, besides its data: a block of descriptors and a trailer. */
-#define HDF4_EDIT_ROOM 230
+#define HDF4_EDIT_ROOM 234
 
 /* The most fields that a Vdata has. */
 #define HDF4_MOST_FIELDS 256
@@ -74,7 +74,8 @@ enum hdf4_refusal {
     HDF4_NO_BLOCK = 25,    /* a linked block is absent, not stored or extended, or its reference is 0 by a record of 22 bytes; the index is the block's, through the whole element */
     HDF4_SHORT_BLOCK = 26, /* a linked block has fewer bytes than are taken from it; the index is the block's, through the whole element */
     HDF4_TABLE_LOOP = 27,  /* a table of the element's linked blocks is one already walked, or a 257th; the index is the table's */
-    HDF4_NOT_STORED = 29   /* the element is named and not stored yet: offset and length of its slot are 4294967295 */
+    HDF4_NOT_STORED = 29,  /* the element is named and not stored yet: offset and length of its slot are 4294967295 */
+    HDF4_OTHER_DESK = 30   /* the trailer of the newest edit is another desk's; the place is the trailer's */
 };
 
 /* The kinds of values. */
@@ -118,6 +119,7 @@ static inline const char *hdf4_refusal_name(uint64_t number)
     case HDF4_SHORT_BLOCK: return "SHORT_BLOCK";
     case HDF4_TABLE_LOOP: return "TABLE_LOOP";
     case HDF4_NOT_STORED: return "NOT_STORED";
+    case HDF4_OTHER_DESK: return "OTHER_DESK";
     default: return "UNKNOWN";
     }
 }
@@ -155,6 +157,7 @@ static inline const char *hdf4_refusal_text(uint64_t number)
     case HDF4_SHORT_BLOCK: return "a linked block of the element is too short";
     case HDF4_TABLE_LOOP: return "the tables of the element's linked blocks repeat or run past 256";
     case HDF4_NOT_STORED: return "the element is named in the directory and not stored yet";
+    case HDF4_OTHER_DESK: return "the newest edit is another desk's";
     default: return "a rule that this version does not know";
     }
 }
@@ -349,21 +352,26 @@ hdf4_choose_answer hdf4_choose(const uint8_t *current, size_t n, const uint8_t *
  *
  * The image is the first `n` bytes of a lent buffer; an `n` over the buffer's length is refused. The new image stands at the front of
  * the buffer, and the bytes behind its end stay as they were. An edit changes one descriptor, or links one new block, and appends the
- * data and a trailer that says how to undo it: the image grows by the data and at most HDF4_EDIT_ROOM bytes more. The data may not lie
- * in the buffer. The tag is not 0, 1 or 107, and not of the extended form, 16384 to 32767.
+ * data and a trailer that says how to undo it and which desk made it: the image grows by the data and at most HDF4_EDIT_ROOM bytes more.
+ * The data may not lie in the buffer. The tag is not 0, 1 or 107, and not of the extended form, 16384 to 32767. The desk is any number:
+ * who edits a file alone names 0.
  */
 
 /* Adds an element with its data, in the first free slot or in a new block. */
-hdf4_edit_answer hdf4_add(uint8_t *buffer, size_t capacity, uint64_t n, uint16_t tag, uint16_t ref, const uint8_t *data, size_t size);
+hdf4_edit_answer hdf4_add(uint8_t *buffer, size_t capacity, uint64_t n, uint32_t desk, uint16_t tag, uint16_t ref, const uint8_t *data,
+                          size_t size);
 
 /* Gives an element other data. */
-hdf4_edit_answer hdf4_replace(uint8_t *buffer, size_t capacity, uint64_t n, uint16_t tag, uint16_t ref, const uint8_t *data, size_t size);
+hdf4_edit_answer hdf4_replace(uint8_t *buffer, size_t capacity, uint64_t n, uint32_t desk, uint16_t tag, uint16_t ref, const uint8_t *data,
+                              size_t size);
 
 /* Removes an element. */
-hdf4_edit_answer hdf4_remove(uint8_t *buffer, size_t capacity, uint64_t n, uint16_t tag, uint16_t ref);
+hdf4_edit_answer hdf4_remove(uint8_t *buffer, size_t capacity, uint64_t n, uint32_t desk, uint16_t tag, uint16_t ref);
 
-/* Undoes the last edit that is not undone yet: the image is as before it, byte for byte. */
-hdf4_edit_answer hdf4_undo(uint8_t *buffer, size_t capacity, uint64_t n);
+/* Undoes the newest edit that the image carries, for the desk that made it: the image is as before the edit, byte for byte. Another desk
+ * is refused with HDF4_OTHER_DESK, at the place of the edit's trailer. The trailer ends the image. If it has 36 bytes, the four before
+ * its last four are the desk, most significant byte first; if it has 32, it is from before trailers named a desk, and desk 0's. */
+hdf4_edit_answer hdf4_undo(uint8_t *buffer, size_t capacity, uint64_t n, uint32_t desk);
 
 /* Records.
  *

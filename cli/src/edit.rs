@@ -4,7 +4,7 @@ use crate::fault::Fault;
 use crate::print::Print;
 use crate::text::shown;
 use crate::words::{pair, Pair, Words};
-use crate::{input, miscounted, store};
+use crate::{desk, input, miscounted, store};
 use hdf4::{Error, Rule, MOST_BYTES};
 use std::borrow::Cow;
 use std::ffi::OsStr;
@@ -19,9 +19,10 @@ pub fn add(words: &Words, print: &mut Print) -> Result<(), Fault> {
         let why = "other HDF4 programs cannot list a file that has it; --allow-zero adds it all the same";
         return Err(Fault::Use(format!("reference 0: {why}")));
     }
+    let desk = desk::named(words)?;
     let data = input::read(data)?.bytes;
     edit(path, data.len() + hdf4::EDIT_ROOM, print, |buffer, length| {
-        hdf4::add(buffer, length, tag, reference, &data).map_err(|e| not_added(e, &buffer[..length], (tag, reference)))
+        hdf4::add(buffer, length, desk, tag, reference, &data).map_err(|e| not_added(e, &buffer[..length], (tag, reference)))
     })
 }
 
@@ -36,19 +37,24 @@ fn not_added(e: Error, image: &[u8], (tag, reference): Pair) -> String {
 pub fn replace(words: &Words, print: &mut Print) -> Result<(), Fault> {
     let &[path, tag, reference, data] = &words.all()[..] else { return Err(miscounted("replace")) };
     let (tag, reference) = pair(tag, reference)?;
+    let desk = desk::named(words)?;
     let data = input::read(data)?.bytes;
-    edit(path, data.len() + hdf4::EDIT_ROOM, print, |buffer, length| hdf4::replace(buffer, length, tag, reference, &data))
+    edit(path, data.len() + hdf4::EDIT_ROOM, print, |buffer, length| hdf4::replace(buffer, length, desk, tag, reference, &data))
 }
 
 pub fn remove(words: &Words, print: &mut Print) -> Result<(), Fault> {
     let &[path, tag, reference] = &words.all()[..] else { return Err(miscounted("remove")) };
     let (tag, reference) = pair(tag, reference)?;
-    edit(path, hdf4::EDIT_ROOM, print, |buffer, length| hdf4::remove(buffer, length, tag, reference))
+    let desk = desk::named(words)?;
+    edit(path, hdf4::EDIT_ROOM, print, |buffer, length| hdf4::remove(buffer, length, desk, tag, reference))
 }
 
 pub fn undo(words: &Words, print: &mut Print) -> Result<(), Fault> {
     let &[path] = &words.all()[..] else { return Err(miscounted("undo")) };
-    edit(path, 0, print, hdf4::undo)
+    let desk = desk::named(words)?;
+    edit(path, 0, print, |buffer, length| {
+        hdf4::undo(buffer, length, desk).map_err(|e| desk::not_undone(e, &buffer[..length], desk))
+    })
 }
 
 /// Edits a file in a buffer with room to grow and writes it back. Says how long it is then.

@@ -4,8 +4,7 @@ use crate::fault::Fault;
 use crate::input::{self, Input};
 use crate::output::Lines;
 use crate::print::Print;
-use crate::text::shown;
-use crate::words::{pair, unsigned, Pair, Words};
+use crate::words::{long_number, pair, Pair, Words};
 use crate::{links, miscounted, output};
 use hdf4::{Error, Rule};
 use std::borrow::Cow;
@@ -33,9 +32,8 @@ pub fn read(words: &Words, print: &mut Print) -> Result<(), Fault> {
 
 /// The most bytes to make room for, where the user names them.
 pub fn most_bytes(words: &Words) -> Result<Option<usize>, Fault> {
-    let Some(word) = words.value("--most") else { return Ok(None) };
-    let most = unsigned(word).filter(|most| *most <= u32::MAX.into());
-    most.map(|most| Some(most as usize)).ok_or(Fault::Use(format!("--most {}: not a number from 0 to {}", shown(word), u32::MAX)))
+    let most = words.value("--most").map(|word| long_number("--most", word));
+    Ok(most.transpose()?.map(|most| most as usize))
 }
 
 /// The bytes of an element of a file, at most so many.

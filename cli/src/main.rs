@@ -2,6 +2,7 @@
 
 mod attributes;
 mod datasets;
+mod desk;
 mod edit;
 mod element;
 mod fault;
@@ -44,6 +45,7 @@ const PGM: Choice = Choice { name: "--pgm", has_value: false };
 const ARRAY: Choice = Choice { name: "--array", has_value: false };
 const IMAGE: Choice = Choice { name: "--image", has_value: false };
 const ALLOW_ZERO: Choice = Choice { name: "--allow-zero", has_value: false };
+const DESK: Choice = Choice { name: desk::OPTION, has_value: true };
 
 /// A command, the options that it takes, and what it does.
 struct Command {
@@ -58,10 +60,10 @@ const COMMANDS: [Command; 9] = [
     Command { name: "groups", choices: &[], run: groups::groups },
     Command { name: "values", choices: &[JSON, NAME], run: values::values },
     Command { name: "grid", choices: &[TEXT, CSV, PGM, ARRAY, IMAGE, MOST], run: grid::grid },
-    Command { name: "add", choices: &[ALLOW_ZERO], run: edit::add },
-    Command { name: "replace", choices: &[], run: edit::replace },
-    Command { name: "remove", choices: &[], run: edit::remove },
-    Command { name: "undo", choices: &[], run: edit::undo },
+    Command { name: "add", choices: &[ALLOW_ZERO, DESK], run: edit::add },
+    Command { name: "replace", choices: &[DESK], run: edit::replace },
+    Command { name: "remove", choices: &[DESK], run: edit::remove },
+    Command { name: "undo", choices: &[DESK], run: edit::undo },
 ];
 
 /// Does what the words say.
@@ -69,6 +71,7 @@ fn run(mut words: Vec<OsString>, print: &mut Print) -> Result<(), Fault> {
     if words.iter().take_while(|word| *word != "--").any(|word| is(word, &["--help", "-h"])) {
         return print.bytes(HELP.as_bytes());
     }
+    let desk = desk::before_command(&mut words);
     if words.is_empty() {
         return Err(Fault::Use("a command is missing; hdf4 help names them".to_string()));
     }
@@ -82,7 +85,7 @@ fn run(mut words: Vec<OsString>, print: &mut Print) -> Result<(), Fault> {
     let Some(command) = COMMANDS.iter().find(|command| name == command.name) else {
         return Err(Fault::Use(format!("{}: no such command; hdf4 help names them", shown(name))));
     };
-    let words = Words::new(words, command.choices).map_err(|fault| named(command.name, fault))?;
+    let words = Words::new([desk, words].concat(), command.choices).map_err(|fault| named(command.name, fault))?;
     (command.run)(&words, print)
 }
 

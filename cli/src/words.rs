@@ -87,8 +87,14 @@ pub fn number(word: &OsStr) -> Result<u16, Fault> {
     number.ok_or(Fault::Use(format!("{}: not a number from 0 to 65535", shown(word))))
 }
 
+/// A number of 32 bits, given by an option or a variable of that name.
+pub fn long_number(name: &str, word: &OsStr) -> Result<u32, Fault> {
+    let number = unsigned(word).and_then(|number| u32::try_from(number).ok());
+    number.ok_or(Fault::Use(format!("{name} {}: not a number from 0 to {}", shown(word), u32::MAX)))
+}
+
 /// A number without a sign, decimal or with 0x before it.
-pub fn unsigned(word: &OsStr) -> Option<u64> {
+fn unsigned(word: &OsStr) -> Option<u64> {
     let text = word.to_str()?;
     let (digits, radix) = match text.strip_prefix("0x") {
         Some(digits) => (digits, 16),

@@ -2,23 +2,13 @@
 
 mod common;
 
-use common::{granted, misused, program, refused, text, Folder, FILES};
+use common::files::TRAILER;
+use common::{granted, misused, program, refused, refused_on, text, Folder, FILES};
 use std::fs;
 use std::io::Write;
-use std::os::unix::fs::MetadataExt;
-use std::path::Path;
 use std::process::Stdio;
 use std::thread;
 use std::time::Duration;
-
-/// A command that must be refused and leave the file as it is, not even written again.
-fn refused_on(file: &Path, words: &[&str], message: &str) {
-    let before = (fs::read(file).unwrap(), fs::metadata(file).unwrap().ino());
-    let answer = refused(words);
-    assert!(answer.contains(message), "{words:?}: {answer}");
-    assert!(answer.contains(text(file)), "{words:?}: {answer}");
-    assert_eq!((fs::read(file).unwrap(), fs::metadata(file).unwrap().ino()), before, "{words:?}");
-}
 
 #[test]
 fn an_added_element_is_listed_and_undone() {
@@ -30,7 +20,7 @@ fn an_added_element_is_listed_and_undone() {
     let printed = granted(&["add", file_word, "40000", "5", data_word]);
     let after = fs::read(&file).unwrap();
     assert_eq!(printed, format!("{file_word}: {} bytes\n", after.len()));
-    assert_eq!(after.len(), before.len() + 6 + 32);
+    assert_eq!(after.len(), before.len() + 6 + TRAILER);
     let line = format!("tag 40000 ref 5 offset {} length 6\n", before.len());
     assert!(granted(&["list", file_word]).contains(&line));
 
@@ -92,7 +82,7 @@ fn data_come_from_standard_input() {
     child.stdin.take().unwrap().write_all(b"closed at noon").unwrap();
     assert!(child.wait().unwrap().success());
     let after = fs::read(&file).unwrap();
-    assert!(after[..after.len() - 32].ends_with(b"closed at noon"));
+    assert!(after[..after.len() - TRAILER].ends_with(b"closed at noon"));
 }
 
 #[test]
@@ -107,7 +97,7 @@ fn refusals_name_their_rule_and_leave_the_file() {
     refused_on(&file, &["add", file_word, "40000", "5", data_word], "PRESENT");
 
     let mut bytes = fs::read(&file).unwrap();
-    let trailer = bytes.len() - 32;
+    let trailer = bytes.len() - TRAILER;
     bytes[trailer + 4] = 1;
     fs::write(&file, &bytes).unwrap();
     refused_on(&file, &["undo", file_word], &format!("(number 21, place {trailer})"));

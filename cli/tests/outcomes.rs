@@ -2,6 +2,7 @@
 
 mod common;
 
+use common::files::TRAILER;
 use common::terminal::on_a_terminal;
 use common::{ended_as, file, granted, granted_bytes, misused, program, text, Folder};
 use std::fs::{self, File};
@@ -111,8 +112,8 @@ fn an_edit_that_cannot_be_told_of_is_done_all_the_same() {
     let output = program().args(add).stdout(full()).output().unwrap();
     assert_eq!(output.status.code(), Some(0));
     let message = String::from_utf8(output.stderr).unwrap();
-    assert!(message.contains(&format!("it has changed, to {} bytes", before + 32)), "{message}");
-    assert_eq!(fs::read(&path).unwrap().len(), before + 32);
+    assert!(message.contains(&format!("it has changed, to {} bytes", before + TRAILER)), "{message}");
+    assert_eq!(fs::read(&path).unwrap().len(), before + TRAILER);
 
     // A message that cannot be written changes nothing about the status.
     let status = program().args(add).stderr(full()).status().unwrap();

@@ -2,11 +2,12 @@
 
 mod common;
 
-use common::{failed, granted, program, refused, text, Folder};
+use common::files::TRAILER;
+use common::{failed, granted, newest_desk, other_desk, program, refused, refused_on, text, Folder};
 use std::fs::{self, File};
 use std::os::unix::fs::{symlink, MetadataExt};
 use std::path::Path;
-use std::process::{Child, Command, Stdio};
+use std::process::{Child, Command, Output, Stdio};
 use std::thread;
 use std::time::Duration;
 
@@ -15,7 +16,11 @@ fn start(words: &[&str]) -> Child {
 }
 
 fn marks(file: &Path) -> usize {
-    granted(&["list", text(file)]).lines().filter(|line| line.starts_with("tag 50000 ")).count()
+    marks_of(file, "50000")
+}
+
+fn marks_of(file: &Path, tag: &str) -> usize {
+    granted(&["list", text(file)]).lines().filter(|line| line.starts_with(&format!("tag {tag} "))).count()
 }
 
 #[test]
@@ -50,6 +55,76 @@ fn edits_and_undos_at_once_leave_what_was_not_undone() {
     assert_eq!(marks(&file), 40 - undone);
 }
 
+/// How many edits a desk makes at once, each under a tag of the desk's own.
+const EDITS: usize = 20;
+
+fn tag_of(desk: u32) -> String {
+    (50000 + desk).to_string()
+}
+
+/// A desk at its terminal: it starts its edits and an undo behind every second one, and then waits for them. Every edit is
+/// granted. Answers how many undos are.
+fn at_a_terminal(desk: u32, file: &Path) -> usize {
+    let named = desk.to_string();
+    let start = |words: &[&str]| {
+        program().args(words).args(["--desk", &named]).stdout(Stdio::null()).stderr(Stdio::piped()).spawn().unwrap()
+    };
+    let (mut edits, mut undos) = (Vec::new(), Vec::new());
+    for number in 1..=EDITS {
+        edits.push(start(&["add", text(file), &tag_of(desk), &number.to_string(), "/dev/null"]));
+        if number % 2 == 0 {
+            undos.push(start(&["undo", text(file)]));
+        }
+    }
+    for edit in edits {
+        let Output { status, stderr, .. } = edit.wait_with_output().unwrap();
+        assert!(status.success(), "{}", String::from_utf8_lossy(&stderr));
+    }
+    let ended = undos.into_iter().map(|undo| undo.wait_with_output().unwrap());
+    ended.filter(|undo| is_granted(desk, undo)).count()
+}
+
+/// Whether an undo is granted. One that is not is refused since the newest edit is another desk's, and for nothing else.
+fn is_granted(desk: u32, undo: &Output) -> bool {
+    let message = String::from_utf8_lossy(&undo.stderr);
+    if undo.status.success() {
+        assert_eq!(message, "");
+        return true;
+    }
+    assert_eq!(undo.status.code(), Some(1), "{message}");
+    let (_, told) = message.split_once(": OTHER_DESK: the newest edit is desk ").expect(&message);
+    let (newest, behind) = told.split_once("'s, and this is desk ").expect(&message);
+    assert!(newest != desk.to_string() && behind.starts_with(&format!("{desk} (number 30, place ")), "{message}");
+    false
+}
+
+#[test]
+fn forty_edits_of_two_desks_at_once_are_undone_each_by_its_own() {
+    let folder = Folder::new("desks");
+    let file = &folder.copy_of("elements.hdf");
+    let before = fs::read(file).unwrap();
+    // Below theirs is an edit of a third desk, so that no undo is refused for want of an edit.
+    granted(&["add", "--desk", "3", text(file), &tag_of(3), "1", "/dev/null"]);
+    let desks = [1, 2];
+    let undone = thread::scope(|scope| {
+        let terminals = desks.map(|desk| scope.spawn(move || at_a_terminal(desk, file)));
+        terminals.map(|terminal| terminal.join().unwrap())
+    });
+    for (desk, undone) in desks.into_iter().zip(undone) {
+        assert_eq!(marks_of(file, &tag_of(desk)), EDITS - undone);
+    }
+
+    // Then the desks undo what is left, the third one the last of it: in all as many undos as edits.
+    for _ in undone.iter().sum()..2 * EDITS + 1 {
+        let newest = newest_desk(file);
+        let other = newest % 3 + 1;
+        refused_on(file, &["undo", "--desk", &other.to_string(), text(file)], &other_desk(file, newest, other));
+        granted(&["undo", "--desk", &newest.to_string(), text(file)]);
+    }
+    assert_eq!(fs::read(file).unwrap(), before);
+    assert_eq!(folder.names(), ["elements.hdf"]);
+}
+
 /// What the file is when the lock that an edit waits for is given up.
 fn edited_after(test: &str, change: impl Fn(&Path)) -> (Folder, Vec<u8>) {
     let folder = Folder::new(test);
@@ -74,7 +149,7 @@ fn a_file_that_took_the_name_meanwhile_is_the_one_that_is_edited() {
         fs::write(&other, &mine).unwrap();
         fs::rename(&other, file).unwrap();
     });
-    assert_eq!(after.len(), mine.len() + 32);
+    assert_eq!(after.len(), mine.len() + TRAILER);
     granted(&["undo", &folder.word("elements.hdf")]);
     assert_eq!(fs::read(folder.path("elements.hdf")).unwrap(), mine);
 }
@@ -83,7 +158,7 @@ fn a_file_that_took_the_name_meanwhile_is_the_one_that_is_edited() {
 fn a_file_that_was_written_meanwhile_is_edited_as_it_is_then() {
     let mine = fs::read(common::file("empty.hdf")).unwrap();
     let (_folder, after) = edited_after("written", |file| fs::write(file, &mine).unwrap());
-    assert_eq!(after.len(), mine.len() + 32);
+    assert_eq!(after.len(), mine.len() + TRAILER);
 }
 
 #[test]

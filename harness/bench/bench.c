@@ -82,14 +82,15 @@ struct editing {
 
 static const uint8_t mark[ELEMENT_BYTES] = "closed";
 static const uint16_t mark_reference = 60000;
+static const uint32_t desk = 7;
 
 static void edit_ours(void *context, int round)
 {
     struct file *file = &((struct editing *)context)->file;
     (void)round;
-    hdf4_edit_answer added = hdf4_add(file->buffer, file->capacity, file->length, TAG, mark_reference, mark, sizeof mark);
+    hdf4_edit_answer added = hdf4_add(file->buffer, file->capacity, file->length, desk, TAG, mark_reference, mark, sizeof mark);
     need(added.number == 0, "hdf4_add");
-    hdf4_edit_answer undone = hdf4_undo(file->buffer, file->capacity, added.length);
+    hdf4_edit_answer undone = hdf4_undo(file->buffer, file->capacity, added.length, desk);
     need(undone.number == 0 && undone.length == file->length, "hdf4_undo");
 }
 

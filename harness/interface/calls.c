@@ -96,46 +96,90 @@ static void copy(void)
     need(copies(hdf4_copy(linked, 77, 302, 4, out, 5), 0, 0, 3, 0) && holds("hub", 3), "hdf4_copy of block 0 alone");
 }
 
-static void edit_and_undo(void)
+/* Two desks, the second of which replaces what the first one added. */
+enum { FIRST_DESK = 0x01020304, SECOND_DESK = 65543 };
+
+static void edit(uint8_t *buffer)
 {
     static const uint8_t mark[] = {0x2a, 0x2b, 0x2c}, other[] = {5, 4, 3, 2, 1};
+    hdf4_edit_answer e = hdf4_add(buffer, 400, 37, FIRST_DESK, 40000, 5, mark, 3);
+    need(e.number == 0 && e.place == 0 && e.length == 76, "hdf4_add");
+    need(hdf4_find(buffer, 76, 40000, 5).slot == 22 && memcmp(buffer + 37, mark, 3) == 0, "what hdf4_add wrote");
+    need(memcmp(buffer + 68, "\1\2\3\4BAC2", 8) == 0, "the desk that hdf4_add wrote");
+    need(buffer[76] == BEHIND, "what is behind the new image");
+
+    e = hdf4_replace(buffer, 400, 76, SECOND_DESK, 40000, 5, other, 4);
+    need(e.number == 0 && e.place == 0 && e.length == 116, "hdf4_replace");
+    hdf4_view_answer v = hdf4_view(buffer, 116, 40000, 5);
+    need(v.offset == 76 && v.length == 4 && memcmp(buffer + 76, other, 4) == 0, "what hdf4_replace wrote");
+    need(memcmp(buffer + 108, "\0\1\0\7BAC2", 8) == 0, "the desk that hdf4_replace wrote");
+
+    e = hdf4_remove(buffer, 400, 116, FIRST_DESK, 100, 1);
+    need(e.number == 0 && e.place == 0 && e.length == 152, "hdf4_remove");
+    need(hdf4_find(buffer, 152, 100, 1).number == HDF4_ABSENT, "what hdf4_remove left");
+    need(hdf4_find(buffer, 152, 40000, 5).number == 0, "what hdf4_remove let be");
+    need(memcmp(buffer + 144, "\1\2\3\4BAC2", 8) == 0, "the desk that hdf4_remove wrote");
+}
+
+/* Each desk undoes its own edits alone. */
+static void undo(uint8_t *buffer)
+{
+    buffer[151] ^= 1;
+    hdf4_edit_answer e = hdf4_undo(buffer, 400, 152, FIRST_DESK);
+    need(e.number == HDF4_NO_EDIT && e.place == 0 && e.length == 0, "hdf4_undo, refused");
+    buffer[151] ^= 1;
+    buffer[143] ^= 1;
+    e = hdf4_undo(buffer, 400, 152, FIRST_DESK);
+    need(e.number == HDF4_BAD_TRAILER && e.place == 116 && e.length == 0, "hdf4_undo of a broken trailer");
+    buffer[143] ^= 1;
+    e = hdf4_undo(buffer, 400, 152, SECOND_DESK);
+    need(e.number == HDF4_OTHER_DESK && e.place == 116 && e.length == 0, "hdf4_undo by another desk");
+
+    e = hdf4_undo(buffer, 400, 152, FIRST_DESK);
+    need(e.number == 0 && e.place == 0 && e.length == 116, "hdf4_undo");
+    need(hdf4_undo(buffer, 400, 116, FIRST_DESK).number == HDF4_OTHER_DESK, "hdf4_undo of another desk's edit");
+    need(hdf4_undo(buffer, 400, 116, SECOND_DESK).length == 76, "hdf4_undo by the other desk");
+    need(hdf4_undo(buffer, 400, 76, FIRST_DESK).length == 37 && memcmp(buffer, small, sizeof small) == 0, "the image as it was");
+}
+
+static void edit_and_undo(void)
+{
     uint8_t buffer[400];
     memset(buffer, BEHIND, sizeof buffer);
     memcpy(buffer, small, sizeof small);
+    edit(buffer);
+    undo(buffer);
+}
 
-    hdf4_edit_answer e = hdf4_add(buffer, 400, 37, 40000, 5, mark, 3);
-    need(e.number == 0 && e.place == 0 && e.length == 72, "hdf4_add");
-    need(hdf4_find(buffer, 72, 40000, 5).slot == 22 && memcmp(buffer + 37, mark, 3) == 0, "what hdf4_add wrote");
-    need(buffer[72] == BEHIND, "what is behind the new image");
+/* An image that has more bytes than the buffer. */
+static void past_buffer(void)
+{
+    static const uint8_t mark[] = {0x2a, 0x2b, 0x2c};
+    uint8_t buffer[37];
+    memcpy(buffer, small, sizeof small);
+    need(hdf4_add(buffer, 36, 37, 7, 40000, 5, mark, 3).number == HDF4_TOO_LONG, "hdf4_add of a longer image than the buffer");
+    need(hdf4_replace(buffer, 36, 37, 7, 100, 1, mark, 3).number == HDF4_TOO_LONG, "hdf4_replace of a longer image than the buffer");
+    need(hdf4_remove(buffer, 36, 37, 7, 100, 1).number == HDF4_TOO_LONG, "hdf4_remove from a longer image than the buffer");
+    need(hdf4_undo(buffer, 36, 37, 7).number == HDF4_TOO_LONG, "hdf4_undo of a longer image than the buffer");
+}
 
-    e = hdf4_replace(buffer, 400, 72, 40000, 5, other, 4);
-    need(e.number == 0 && e.place == 0 && e.length == 108, "hdf4_replace");
-    hdf4_view_answer v = hdf4_view(buffer, 108, 40000, 5);
-    need(v.offset == 72 && v.length == 4 && memcmp(buffer + 72, other, 4) == 0, "what hdf4_replace wrote");
+/* The trailer of an edit from before trailers named a desk: 40000/5 with one byte at 37, in the free slot of the small file. */
+static void old_trailer(void)
+{
+    uint8_t buffer[70] = {0};
+    memcpy(buffer, small, sizeof small);
+    put_slot(buffer + 22, 40000, 5, 37, 1);
+    buffer[37] = 0x2a;
+    put_32(buffer + 38, 22);
+    put_32(buffer + 42, 12);
+    put_slot(buffer + 46, 1, 0, 0, 0);
+    put_32(buffer + 58, 37);
+    memcpy(buffer + 66, "BACK", 4);
 
-    e = hdf4_remove(buffer, 400, 108, 100, 1);
-    need(e.number == 0 && e.place == 0 && e.length == 140, "hdf4_remove");
-    need(hdf4_find(buffer, 140, 100, 1).number == HDF4_ABSENT, "what hdf4_remove left");
-    need(hdf4_find(buffer, 140, 40000, 5).number == 0, "what hdf4_remove let be");
-
-    buffer[139] ^= 1;
-    e = hdf4_undo(buffer, 400, 140);
-    need(e.number == HDF4_NO_EDIT && e.place == 0 && e.length == 0, "hdf4_undo, refused");
-    buffer[139] ^= 1;
-    buffer[135] ^= 1;
-    e = hdf4_undo(buffer, 400, 140);
-    need(e.number == HDF4_BAD_TRAILER && e.place == 108 && e.length == 0, "hdf4_undo of a broken trailer");
-    buffer[135] ^= 1;
-
-    e = hdf4_undo(buffer, 400, 140);
-    need(e.number == 0 && e.place == 0 && e.length == 108, "hdf4_undo");
-    need(hdf4_undo(buffer, 400, 108).length == 72 && hdf4_undo(buffer, 400, 72).length == 37, "hdf4_undo, twice more");
-    need(memcmp(buffer, small, sizeof small) == 0, "the image as it was");
-
-    need(hdf4_add(buffer, 36, 37, 40000, 5, mark, 3).number == HDF4_TOO_LONG, "hdf4_add of a longer image than the buffer");
-    need(hdf4_replace(buffer, 36, 37, 100, 1, mark, 3).number == HDF4_TOO_LONG, "hdf4_replace of a longer image than the buffer");
-    need(hdf4_remove(buffer, 36, 37, 100, 1).number == HDF4_TOO_LONG, "hdf4_remove from a longer image than the buffer");
-    need(hdf4_undo(buffer, 36, 37).number == HDF4_TOO_LONG, "hdf4_undo of a longer image than the buffer");
+    hdf4_edit_answer e = hdf4_undo(buffer, 70, 70, 7);
+    need(e.number == HDF4_OTHER_DESK && e.place == 38 && e.length == 0, "hdf4_undo of an old trailer by desk 7");
+    e = hdf4_undo(buffer, 70, 70, 0);
+    need(e.number == 0 && e.place == 0 && e.length == 37 && memcmp(buffer, small, 37) == 0, "hdf4_undo of an old trailer by desk 0");
 }
 
 /* 302/7 in the free slot of the small file, named and not stored: it is found and listed and not read, and an edit stores it. */
@@ -157,9 +201,9 @@ static void not_stored(void)
     need(hdf4_choose(buffer, 37, small, 37, 302, 7).number == HDF4_NOT_STORED, "hdf4_choose of what is not stored");
     need(copies(hdf4_copy(buffer, 37, 302, 7, out, 0), HDF4_NOT_STORED, 22, 0, 0), "hdf4_copy of what is not stored");
 
-    need(hdf4_add(buffer, 200, 37, 302, 7, mark, 3).number == HDF4_PRESENT, "hdf4_add of what is not stored");
-    need(hdf4_replace(buffer, 200, 37, 302, 7, mark, 3).length == 72, "hdf4_replace of what is not stored");
-    need(hdf4_view(buffer, 72, 302, 7).offset == 37 && hdf4_undo(buffer, 200, 72).length == 37, "what is stored then");
+    need(hdf4_add(buffer, 200, 37, 9, 302, 7, mark, 3).number == HDF4_PRESENT, "hdf4_add of what is not stored");
+    need(hdf4_replace(buffer, 200, 37, 9, 302, 7, mark, 3).length == 76, "hdf4_replace of what is not stored");
+    need(hdf4_view(buffer, 76, 302, 7).offset == 37 && hdf4_undo(buffer, 200, 76, 9).length == 37, "what is stored then");
     need(hdf4_view(buffer, 37, 302, 7).number == HDF4_NOT_STORED, "what is not stored after an undo");
 }
 
@@ -167,11 +211,11 @@ static void not_stored(void)
 static void edit_room(void)
 {
     static const uint8_t data[] = {7, 6, 5, 4};
-    uint8_t buffer[72 + 4 + HDF4_EDIT_ROOM] = {0};
+    uint8_t buffer[76 + 4 + HDF4_EDIT_ROOM] = {0};
     memcpy(buffer, small, sizeof small);
-    need(hdf4_add(buffer, sizeof buffer, 37, 40000, 5, data, 3).length == 72, "the last free slot");
-    need(hdf4_add(buffer, sizeof buffer - 1, 72, 40000, 6, data, 4).number == HDF4_NO_ROOM, "a byte less than HDF4_EDIT_ROOM");
-    need(hdf4_add(buffer, sizeof buffer, 72, 40000, 6, data, 4).length == sizeof buffer, "HDF4_EDIT_ROOM");
+    need(hdf4_add(buffer, sizeof buffer, 37, 8, 40000, 5, data, 3).length == 76, "the last free slot");
+    need(hdf4_add(buffer, sizeof buffer - 1, 76, 8, 40000, 6, data, 4).number == HDF4_NO_ROOM, "a byte less than HDF4_EDIT_ROOM");
+    need(hdf4_add(buffer, sizeof buffer, 76, 8, 40000, 6, data, 4).length == sizeof buffer, "HDF4_EDIT_ROOM");
 }
 
 static void records(void)
@@ -369,7 +413,7 @@ static void names(void)
          "hdf4_refusal_text of NO_BLOCK");
     for (uint64_t number = 0; number < 100; number++)
         need(hdf4_refusal_text(number)[0] != 0, "hdf4_refusal_text of every number");
-    need(strcmp(HDF4_VERSION, "0.2.3") == 0, "HDF4_VERSION");
+    need(strcmp(HDF4_VERSION, "0.3.0") == 0, "HDF4_VERSION");
 }
 
 int main(void)
@@ -383,6 +427,8 @@ int main(void)
     size();
     copy();
     edit_and_undo();
+    past_buffer();
+    old_trailer();
     not_stored();
     edit_room();
     records();

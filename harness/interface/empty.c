@@ -72,19 +72,19 @@ static void edit_all(uint8_t *b, struct answers *answers)
     uint8_t buffer[400] = {0};
     memcpy(buffer, small, sizeof small);
 
-    KEEP(HDF4_NOT_HDF, hdf4_edit_answer, hdf4_add(b, 0, 0, 40000, 5, data, 3));
-    KEEP(HDF4_TOO_LONG, hdf4_edit_answer, hdf4_add(b, 0, 37, 40000, 5, data, 3));
-    KEEP(HDF4_NOT_HDF, hdf4_edit_answer, hdf4_add(b, 0, 0, 40000, 5, b, 0));
-    KEEP(0, hdf4_edit_answer, hdf4_add(buffer, 400, 37, 40000, 5, b, 0));
-    KEEP(HDF4_NOT_HDF, hdf4_edit_answer, hdf4_replace(b, 0, 0, 100, 1, data, 3));
-    KEEP(HDF4_NOT_HDF, hdf4_edit_answer, hdf4_replace(b, 0, 0, 100, 1, b, 0));
-    KEEP(0, hdf4_edit_answer, hdf4_replace(buffer, 400, 69, 100, 1, b, 0));
-    KEEP(HDF4_NOT_HDF, hdf4_edit_answer, hdf4_remove(b, 0, 0, 100, 1));
-    KEEP(HDF4_NOT_HDF, hdf4_edit_answer, hdf4_undo(b, 0, 0));
-    KEEP(HDF4_TOO_LONG, hdf4_edit_answer, hdf4_undo(b, 0, 37));
-    KEEP(0, hdf4_view_answer, hdf4_view(buffer, 101, 40000, 5));
-    KEEP(0, hdf4_size_answer, hdf4_size(buffer, 101, 40000, 5));
-    KEEP(0, hdf4_copy_answer, hdf4_copy(buffer, 101, 40000, 5, b, 0));
+    KEEP(HDF4_NOT_HDF, hdf4_edit_answer, hdf4_add(b, 0, 0, 9, 40000, 5, data, 3));
+    KEEP(HDF4_TOO_LONG, hdf4_edit_answer, hdf4_add(b, 0, 37, 9, 40000, 5, data, 3));
+    KEEP(HDF4_NOT_HDF, hdf4_edit_answer, hdf4_add(b, 0, 0, 9, 40000, 5, b, 0));
+    KEEP(0, hdf4_edit_answer, hdf4_add(buffer, 400, 37, 9, 40000, 5, b, 0));
+    KEEP(HDF4_NOT_HDF, hdf4_edit_answer, hdf4_replace(b, 0, 0, 9, 100, 1, data, 3));
+    KEEP(HDF4_NOT_HDF, hdf4_edit_answer, hdf4_replace(b, 0, 0, 9, 100, 1, b, 0));
+    KEEP(0, hdf4_edit_answer, hdf4_replace(buffer, 400, 73, 9, 100, 1, b, 0));
+    KEEP(HDF4_NOT_HDF, hdf4_edit_answer, hdf4_remove(b, 0, 0, 9, 100, 1));
+    KEEP(HDF4_NOT_HDF, hdf4_edit_answer, hdf4_undo(b, 0, 0, 9));
+    KEEP(HDF4_TOO_LONG, hdf4_edit_answer, hdf4_undo(b, 0, 37, 9));
+    KEEP(0, hdf4_view_answer, hdf4_view(buffer, 109, 40000, 5));
+    KEEP(0, hdf4_size_answer, hdf4_size(buffer, 109, 40000, 5));
+    KEEP(0, hdf4_copy_answer, hdf4_copy(buffer, 109, 40000, 5, b, 0));
 }
 
 static void pack_all(uint8_t *b, uint16_t *s, uint32_t *l, struct answers *answers)

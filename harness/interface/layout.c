@@ -26,11 +26,12 @@ hdf4_view_answer hdf4_view(const uint8_t *image, size_t n, uint16_t tag, uint16_
 hdf4_size_answer hdf4_size(const uint8_t *image, size_t n, uint16_t tag, uint16_t ref);
 hdf4_copy_answer hdf4_copy(const uint8_t *image, size_t n, uint16_t tag, uint16_t ref, uint8_t *out, size_t room);
 hdf4_choose_answer hdf4_choose(const uint8_t *current, size_t n, const uint8_t *fallback, size_t m, uint16_t tag, uint16_t ref);
-hdf4_edit_answer hdf4_add(uint8_t *buffer, size_t capacity, uint64_t n, uint16_t tag, uint16_t ref, const uint8_t *data, size_t size);
-hdf4_edit_answer hdf4_replace(uint8_t *buffer, size_t capacity, uint64_t n, uint16_t tag, uint16_t ref, const uint8_t *data,
-                              size_t size);
-hdf4_edit_answer hdf4_remove(uint8_t *buffer, size_t capacity, uint64_t n, uint16_t tag, uint16_t ref);
-hdf4_edit_answer hdf4_undo(uint8_t *buffer, size_t capacity, uint64_t n);
+hdf4_edit_answer hdf4_add(uint8_t *buffer, size_t capacity, uint64_t n, uint32_t desk, uint16_t tag, uint16_t ref,
+                          const uint8_t *data, size_t size);
+hdf4_edit_answer hdf4_replace(uint8_t *buffer, size_t capacity, uint64_t n, uint32_t desk, uint16_t tag, uint16_t ref,
+                              const uint8_t *data, size_t size);
+hdf4_edit_answer hdf4_remove(uint8_t *buffer, size_t capacity, uint64_t n, uint32_t desk, uint16_t tag, uint16_t ref);
+hdf4_edit_answer hdf4_undo(uint8_t *buffer, size_t capacity, uint64_t n, uint32_t desk);
 hdf4_number_type_answer hdf4_read_number_type(const uint8_t *image, size_t n, uint16_t ref);
 hdf4_pack_answer hdf4_pack_number_type(uint8_t version, uint8_t type, uint8_t width, uint8_t number_class, uint8_t *out, size_t room);
 hdf4_dimension_answer hdf4_read_dimension(const uint8_t *image, size_t n, uint16_t tag, uint16_t ref);

@@ -3,6 +3,7 @@
 
 pub mod chains;
 pub mod changes;
+pub mod desks;
 pub mod edits;
 pub mod numbers;
 pub mod pieces;

@@ -9,26 +9,28 @@ pub const PRESENT: u64 = 18;
 pub const NO_ROOM: u64 = 19;
 pub const NO_EDIT: u64 = 20;
 pub const BAD_TRAILER: u64 = 21;
+pub const OTHER_DESK: u64 = 30;
 
 pub const BLOCK_SLOTS: usize = 16;
 pub const BLOCK_SIZE: usize = 198;
-pub const TRAILER_SIZE: usize = 32;
-pub const CLOSING: [u8; 4] = [0x42, 0x41, 0x43, 0x4b];
-const SHORTEST_WITH_TRAILER: usize = 42;
 
 pub const SLOT_BYTES: usize = 12;
 pub const NEXT_BYTES: usize = 4;
+
+/// The desk of all trailers of the old form.
+pub const OLD_DESK: u32 = 0;
 
 /// A call with its arguments.
 #[derive(Clone)]
 pub enum Request {
     Edit(Edit),
-    Undo,
+    Undo { desk: u32 },
 }
 
 /// An edit. Removing has no data.
 #[derive(Clone)]
 pub struct Edit {
+    pub desk: u32,
     pub kind: Kind,
     pub tag: u16,
     pub reference: u16,
@@ -49,11 +51,12 @@ pub struct Change {
     pub appended: Vec<u8>,
 }
 
-/// A refused call: its answer, and the rule that decided it.
+/// A refused call: its answer, the rule that decided it, and the form of the trailer that was judged, where one was.
 #[derive(Clone, Copy, Debug)]
 pub struct Refused {
     pub refusal: Refusal,
     pub reason: Reason,
+    pub form: Option<Form>,
 }
 
 /// The rules that refuse, told apart where one number stands for several.
@@ -77,6 +80,42 @@ pub enum Reason {
     Padding,
     Previous,
     Restored,
+    Desk,
+}
+
+/// The forms of a trailer. The old one names no desk. Every edit leaves a long one.
+#[derive(Clone, Copy, Debug, PartialEq, Eq)]
+pub enum Form {
+    Old,
+    Long,
+}
+
+pub const FORMS: [Form; 2] = [Form::Old, Form::Long];
+
+impl Form {
+    /// How many bytes a trailer has.
+    pub const fn size(self) -> usize {
+        match self {
+            Form::Old => 32,
+            Form::Long => 36,
+        }
+    }
+
+    /// The four bytes that a trailer ends in.
+    pub const fn closing(self) -> [u8; 4] {
+        match self {
+            Form::Old => [0x42, 0x41, 0x43, 0x4b],
+            Form::Long => [0x42, 0x41, 0x43, 0x32],
+        }
+    }
+
+    /// How many bytes the shortest file with a trailer has.
+    const fn shortest(self) -> usize {
+        match self {
+            Form::Old => 42,
+            Form::Long => 46,
+        }
+    }
 }
 
 /// The file that a call makes of the first `n` bytes of a buffer.
@@ -95,24 +134,24 @@ pub fn file_in(buffer: &[u8], n: u64) -> Result<&[u8], Refused> {
 /// The file that a call makes of a file in a buffer of a certain length.
 pub fn perform(file: &[u8], capacity: u64, request: &Request) -> Result<Vec<u8>, Refused> {
     match request {
-        Request::Edit(edit) => Ok(change(file, capacity, edit)?.made_of(file)),
-        Request::Undo => undo(file),
+        Request::Edit(edit) => Ok(change(file, capacity, edit, Form::Long)?.made_of(file)),
+        Request::Undo { desk } => undo(file, *desk),
     }
 }
 
-/// What an edit does to a file. The order of refusals: opening's, 7, 18 or 11, 6, 1, 19.
-pub fn change(file: &[u8], capacity: u64, edit: &Edit) -> Result<Change, Refused> {
+/// What an edit does to a file, with a trailer of this form. The order of refusals: opening's, 7, 18 or 11, 6, 1, 19.
+pub fn change(file: &[u8], capacity: u64, edit: &Edit, form: Form) -> Result<Change, Refused> {
     let directory = open(file)?;
     judge_tag(edit.tag)?;
     let target = target(&directory, edit)?;
-    let length = file.len() as u64 + target.appended() + edit.data.len() as u64 + TRAILER_SIZE as u64;
+    let length = file.len() as u64 + target.appended() + edit.data.len() as u64 + form.size() as u64;
     if length > MOST_BYTES {
         return refuse(TOO_LONG, Reason::Limit);
     }
     if length > capacity {
         return refuse(NO_ROOM, Reason::Room);
     }
-    Ok(target.change(file, edit))
+    Ok(target.change(file, edit, form))
 }
 
 impl Change {
@@ -126,7 +165,7 @@ impl Change {
 }
 
 fn open(file: &[u8]) -> Result<Directory, Refused> {
-    reader::open(file).map_err(|refusal| Refused { refusal, reason: Reason::Opening })
+    reader::open(file).map_err(|refusal| Refused { refusal, reason: Reason::Opening, form: None })
 }
 
 fn judge_tag(tag: u16) -> Result<(), Refused> {
@@ -176,14 +215,14 @@ impl Target {
         }
     }
 
-    fn change(&self, file: &[u8], edit: &Edit) -> Change {
+    fn change(&self, file: &[u8], edit: &Edit, form: Form) -> Change {
         let n = file.len();
         let (place, bytes, mut appended) = match self {
             Target::Slot { place } => (*place, slot_of(edit, n), Vec::new()),
             Target::NewBlock { next } => (*next, number32(n), new_block(slot_of(edit, n + BLOCK_SIZE))),
         };
         appended.extend_from_slice(&edit.data);
-        appended.extend(trailer(file, place, bytes.len()));
+        appended.extend(Trailer::behind(file, place, bytes.len(), form, edit.desk).bytes());
         Change { place, bytes, appended }
     }
 }
@@ -210,67 +249,88 @@ pub fn slot(tag: u16, reference: u16, offset: usize, length: usize) -> Vec<u8> {
 /// The fields of a trailer, the closing bytes left out.
 #[derive(Clone, Debug)]
 pub struct Trailer {
+    pub form: Form,
     pub place: u32,
     pub altered: u32,
     pub old: [u8; SLOT_BYTES],
     pub before: u32,
     pub previous: u32,
+    pub desk: u32,
 }
 
 impl Trailer {
+    /// The trailer of an edit that alters bytes of a file, for the place right behind it.
+    fn behind(file: &[u8], place: usize, altered: usize, form: Form, desk: u32) -> Trailer {
+        let mut old = [0; SLOT_BYTES];
+        old[..altered].copy_from_slice(&file[place..place + altered]);
+        let (before, previous) = (file.len() as u32, previous(file, form));
+        Trailer { form, place: place as u32, altered: altered as u32, old, before, previous, desk }
+    }
+
+    /// All bytes. Those of the old form have no desk.
     pub fn bytes(&self) -> Vec<u8> {
-        let Trailer { place, altered, old, before, previous } = self;
+        let Trailer { form, place, altered, old, before, previous, desk } = self;
         let numbers = [place.to_be_bytes(), altered.to_be_bytes()].concat();
         let lengths = [before.to_be_bytes(), previous.to_be_bytes()].concat();
-        [&numbers[..], old, &lengths, &CLOSING].concat()
+        let desk = if *form == Form::Long { desk.to_be_bytes().to_vec() } else { Vec::new() };
+        [&numbers[..], old, &lengths, &desk, &form.closing()].concat()
     }
 
-    /// The trailer in the last bytes of a file.
-    pub fn of(file: &[u8]) -> Trailer {
-        let bytes = &file[file.len() - TRAILER_SIZE..];
+    /// The trailer that a file carries.
+    pub fn of(file: &[u8]) -> Option<Trailer> {
+        let form = carried(file)?;
+        let bytes = &file[file.len() - form.size()..];
         let number = |place: usize| u32::from_be_bytes(bytes[place..place + 4].try_into().expect("four bytes"));
         let old = bytes[8..8 + SLOT_BYTES].try_into().expect("twelve bytes");
-        Trailer { place: number(0), altered: number(4), old, before: number(20), previous: number(24) }
+        let desk = if form == Form::Long { number(28) } else { OLD_DESK };
+        let (before, previous) = (number(20), number(24));
+        Some(Trailer { form, place: number(0), altered: number(4), old, before, previous, desk })
     }
 }
 
-/// The trailer of an edit that alters bytes of a file.
-fn trailer(file: &[u8], place: usize, altered: usize) -> Vec<u8> {
-    let mut old = [0; SLOT_BYTES];
-    old[..altered].copy_from_slice(&file[place..place + altered]);
-    let (before, previous) = (file.len() as u32, previous(file));
-    Trailer { place: place as u32, altered: altered as u32, old, before, previous }.bytes()
+/// The form of the trailer that a file carries.
+pub fn carried(file: &[u8]) -> Option<Form> {
+    FORMS.into_iter().find(|form| file.len() >= form.shortest() && file.ends_with(&form.closing()))
 }
 
-/// What a trailer right behind a file names as the previous one.
-pub fn previous(file: &[u8]) -> u32 {
-    if carries_trailer(file) {
-        (file.len() - TRAILER_SIZE) as u32
-    } else {
-        0
+/// What a trailer right behind a file names as the previous one. One of the old form knows only its own.
+pub fn previous(file: &[u8], form: Form) -> u32 {
+    match (form, carried(file)) {
+        (Form::Old, Some(Form::Long)) | (_, None) => 0,
+        (_, Some(carried)) => (file.len() - carried.size()) as u32,
     }
 }
 
-pub fn carries_trailer(file: &[u8]) -> bool {
-    file.len() >= SHORTEST_WITH_TRAILER && file.ends_with(&CLOSING)
-}
-
-/// The file before the last edit. The order of refusals: opening's, 20, 21.
-pub fn undo(file: &[u8]) -> Result<Vec<u8>, Refused> {
+/// The file before the newest edit, for the desk that made it. The order of refusals: opening's, 20, 21, 30.
+pub fn undo(file: &[u8], desk: u32) -> Result<Vec<u8>, Refused> {
     let directory = open(file)?;
-    if !carries_trailer(file) {
-        return refuse(NO_EDIT, Reason::NoTrailer);
+    let Some(trailer) = Trailer::of(file) else { return refuse(NO_EDIT, Reason::NoTrailer) };
+    let n = file.len() as u64;
+    let image = restored(file, &directory, &trailer);
+    let image = image.map_err(|reason| Refused::at_trailer(n, trailer.form, BAD_TRAILER, reason))?;
+    match trailer.desk == desk {
+        true => Ok(image),
+        false => Err(Refused::by_desk(n, trailer.form)),
     }
-    let place = (file.len() - TRAILER_SIZE) as u64;
-    let refusal = Refusal { number: BAD_TRAILER, place };
-    restored(file, &directory).map_err(|reason| Refused { refusal, reason })
+}
+
+impl Refused {
+    /// A refusal at the trailer that ends a file of this length.
+    fn at_trailer(length: u64, form: Form, number: u64, reason: Reason) -> Refused {
+        let place = length - form.size() as u64;
+        Refused { refusal: Refusal { number, place }, reason, form: Some(form) }
+    }
+
+    /// The refusal of an undo where the trailer that ends a file of this length is another desk's.
+    pub fn by_desk(length: u64, form: Form) -> Refused {
+        Refused::at_trailer(length, form, OTHER_DESK, Reason::Desk)
+    }
 }
 
 /// Judges the trailer of a file and puts the old bytes back.
-fn restored(file: &[u8], directory: &Directory) -> Result<Vec<u8>, Reason> {
-    let trailer = Trailer::of(file);
+fn restored(file: &[u8], directory: &Directory, trailer: &Trailer) -> Result<Vec<u8>, Reason> {
     let (place, before, altered) = (trailer.place as usize, trailer.before as usize, trailer.altered as usize);
-    if before > file.len() - TRAILER_SIZE {
+    if before > file.len() - trailer.form.size() {
         return Err(Reason::LengthBefore);
     }
     if altered != SLOT_BYTES && altered != NEXT_BYTES {
@@ -287,7 +347,7 @@ fn restored(file: &[u8], directory: &Directory) -> Result<Vec<u8>, Reason> {
     }
     let mut image = file[..before].to_vec();
     image[place..place + altered].copy_from_slice(&trailer.old[..altered]);
-    if trailer.previous != previous(&image) {
+    if trailer.previous != previous(&image, trailer.form) {
         return Err(Reason::Previous);
     }
     match reader::open(&image) {
@@ -319,5 +379,5 @@ fn number32(number: usize) -> Vec<u8> {
 
 /// A refusal at place 0.
 fn refuse<T>(number: u64, reason: Reason) -> Result<T, Refused> {
-    Err(Refused { refusal: Refusal { number, place: 0 }, reason })
+    Err(Refused { refusal: Refusal { number, place: 0 }, reason, form: None })
 }

@@ -50,6 +50,7 @@ const _: () = assert!(hdf4_sys::MOST_BYTES as u64 == reader::MOST_BYTES);
 const _: () = assert!(hdf4_sys::MOST_ELEMENTS as u64 == reader::MOST_SLOTS);
 const _: () = assert!(hdf4_sys::MOST_FIELDS == vset::MOST_FIELDS && hdf4_sys::MOST_PAIRS == vset::MOST_PAIRS);
 const _: () = assert!(hdf4_sys::LITTLE_ENDIAN == vset::LOW_FIRST as usize);
+const _: () = assert!(hdf4_sys::EDIT_ROOM == editor::BLOCK_SIZE + editor::Form::Long.size());
 
 /// Compares what a seed and an index make.
 type Generated = fn(u64, u64, &mut Tally) -> Result<(), String>;
@@ -151,6 +152,7 @@ fn run_all(options: &Options, random: &mut Random, tally: &mut Tally) -> Result<
     }
     println!("{} marked cases", cases.len() + cases::edits::check(tally)?);
     println!("{} cases of replacing, removing and empty data", cases::changes::check(tally)?);
+    println!("{} cases of desks and of old trailers", cases::desks::check(tally)?);
     println!("{} files of blocks in every order", cases::chains::check_all(random)?);
     println!("{} records with known numbers", cases::records::check(random, tally)?);
     println!("{} values with known bits, in both byte orders", cases::numbers::check(random)?);
@@ -198,9 +200,8 @@ fn run_share(indices: impl Iterator<Item = u64>, seed: u64, compare: Generated) 
 
 /// Prints the table of answers, and complains of a number that was never reached.
 fn report(tally: &Tally) -> Result<(), String> {
-    let Tally { files, sequences, undone_starts, .. } = tally;
+    let Tally { files, sequences, .. } = tally;
     println!("{files} files, {sequences} sequences and {} calls compared, no difference", tally.calls());
-    println!("{undone_starts} undos of edits before the sequence");
     print!("{tally}");
     match tally.never_reached().as_slice() {
         [] => Ok(()),

@@ -1,5 +1,6 @@
 //! Random sequences of edits and undos on a file at the front of a buffer, refused calls among them.
 
+mod desks;
 mod requests;
 pub mod round_trip;
 mod starts;
@@ -7,10 +8,11 @@ mod trailers;
 
 use crate::compare::edits::Lending;
 use crate::compare::Difference;
-use crate::editor::{Request, CLOSING};
+use crate::editor::{Request, FORMS};
 use crate::hex_dump;
 use crate::random::Random;
 use crate::tally::Tally;
+use desks::Desks;
 use hdf4_sys::EditAnswer;
 use requests::Mix;
 use starts::Start;
@@ -22,6 +24,7 @@ const ABSURD_LENGTH_EVERY: usize = 25;
 struct Sequence<'a> {
     random: Random,
     lending: Lending,
+    desks: Desks,
     mix: Mix,
     tally: &'a mut Tally,
 }
@@ -45,7 +48,8 @@ fn play(seed: u64, index: u64, tally: &mut Tally, show: bool) -> Result<(), Stri
     }
     tally.sequences += 1;
     let lending = Lending::new(&file, &rest, random.below(16));
-    let mut sequence = Sequence { random, lending, mix, tally };
+    let desks = Desks::new(&mut random);
+    let mut sequence = Sequence { random, lending, desks, mix, tally };
     for call in 1..=calls {
         let at = |difference: Difference| format!("{difference}\nseed {seed} sequence {index}, call {call}: {kind}");
         let (n, request, answer) = sequence.step().map_err(at)?;
@@ -60,7 +64,7 @@ impl Sequence<'_> {
     /// One call: the length given to it, the call and its answer.
     fn step(&mut self) -> Result<(u64, Request, EditAnswer), Difference> {
         let (length, capacity) = (self.lending.file().len(), self.lending.capacity());
-        let request = requests::request(&mut self.random, self.lending.file(), capacity, self.mix);
+        let request = requests::request(&mut self.random, self.lending.file(), capacity, self.mix, &mut self.desks);
         if self.random.once_in(ABSURD_LENGTH_EVERY) {
             let n = requests::absurd_length(&mut self.random, length, capacity);
             let answer = self.lending.call_with(n, &request, self.tally)?;
@@ -86,8 +90,9 @@ fn rest(random: &mut Random) -> Vec<u8> {
         1 => vec![0xff; count],
         _ => random.bytes(count),
     };
-    if count >= CLOSING.len() && random.once_in(6) {
-        bytes[count - CLOSING.len()..].copy_from_slice(&CLOSING);
+    let closing = random.pick(&FORMS).closing();
+    if count >= closing.len() && random.once_in(6) {
+        bytes[count - closing.len()..].copy_from_slice(&closing);
     }
     bytes
 }

@@ -1,10 +1,13 @@
 //! How many files and calls were compared, and how often each answer number and each rule was reached.
 
-use crate::editor::{Reason, BAD_TRAILER, NO_EDIT, NO_ROOM, PRESENT};
+mod edits;
+
+use crate::editor::{BAD_TRAILER, NO_EDIT, NO_ROOM, OTHER_DESK, PRESENT};
 use crate::reader::{ABSENT, NOT_STORED, SMALL, TWICE};
 use crate::records::{Cause, DEEP, NO_VALUE, RECORD, TYPE};
 use crate::storage::{Layout, Way, CHAIN, NO_BLOCK, NO_TABLE, SHORT_BLOCK, SHORT_TABLE, STORAGE, TABLE_LOOP};
 use crate::vset::{type_of, Sort, Value, Vdata, CODES};
+use edits::Edits;
 use std::{fmt, slice};
 
 /// The calls of the library. A further call gets a further case here, in `CALLS` and in `can_answer`.
@@ -63,7 +66,6 @@ pub const CALLS: [Call; 24] = [
     Call::PackVdata,
 ];
 const FILE_CALLS: usize = 11;
-const EDITS: [Call; 4] = [Call::Add, Call::Replace, Call::Remove, Call::Undo];
 const NUMBERS: usize = 31;
 
 /// The calls that are granted although an element is not stored yet, since they do not read it.
@@ -81,28 +83,6 @@ const READS: [Read; 8] = [
     (Call::Copy, Some(Layout::Full), "copy of 22"),
     (Call::Copy, Some(Layout::Sparse), "copy of 16"),
     (Call::Choose, None, "choose"),
-];
-
-/// The rules that refuse an edit or an undo, with their names in the table.
-const REASONS: [(Reason, &str); 18] = [
-    (Reason::Length, "1 length given"),
-    (Reason::Limit, "1 new length"),
-    (Reason::Opening, "1 to 10 opening"),
-    (Reason::Blocks, "6 blocks"),
-    (Reason::Slots, "6 slots"),
-    (Reason::Tag, "7 tag"),
-    (Reason::Absent, "11 absent"),
-    (Reason::Present, "18 present"),
-    (Reason::PresentUnstored, "18 not stored"),
-    (Reason::Room, "19 room"),
-    (Reason::NoTrailer, "20 no trailer"),
-    (Reason::LengthBefore, "21 length before"),
-    (Reason::BytesAltered, "21 bytes altered"),
-    (Reason::PlaceAltered, "21 place"),
-    (Reason::PastLengthBefore, "21 place past length"),
-    (Reason::Padding, "21 padding"),
-    (Reason::Previous, "21 previous"),
-    (Reason::Restored, "21 restored image"),
 ];
 
 /// The ways to an answer of a call that reads an element, with their names in the table.
@@ -234,12 +214,11 @@ const MEETINGS: [(Meeting, &str); 8] = [
 pub struct Tally {
     pub files: u64,
     pub sequences: u64,
-    /// Granted undos of an edit that was made before the sequence.
-    pub undone_starts: u64,
     /// Files opened and listed with elements that are not stored yet; slots of such elements found, replaced, removed, put back.
     unstored: [u64; WITH_UNSTORED.len()],
     reached: [[u64; NUMBERS]; CALLS.len()],
-    broken: [[u64; REASONS.len()]; CALLS.len()],
+    /// Edits and undos.
+    pub edits: Edits,
     gone: Counts<{ READS.len() }, { WAYS.len() }>,
     /// Copies refused at the first table or block, and at a later one.
     indices: [[u64; 2]; WITH_INDEX.len()],
@@ -311,7 +290,7 @@ impl Call {
             Call::Copy => &[CHAIN, SMALL, NO_TABLE, SHORT_TABLE, NO_BLOCK, SHORT_BLOCK, TABLE_LOOP],
             Call::Add => &[PRESENT, NO_ROOM],
             Call::Replace | Call::Remove => &[ABSENT, NO_ROOM],
-            Call::Undo => &[NO_EDIT, BAD_TRAILER],
+            Call::Undo => &[NO_EDIT, BAD_TRAILER, OTHER_DESK],
             Call::ReadNumberType | Call::ReadDimension => &[RECORD],
             Call::ReadArray | Call::ReadGroup => &[SMALL, RECORD],
             Call::ReadVdata | Call::ReadFields => &[SMALL, RECORD, TYPE],
@@ -324,17 +303,6 @@ impl Call {
         let opens = number <= TWICE && !self.packs();
         let reads = [ABSENT, NOT_STORED, STORAGE].contains(&number) && self.reads();
         number == 0 || opens || reads || others.contains(&number)
-    }
-
-    /// Whether this rule can refuse the call.
-    fn can_break(self, reason: Reason) -> bool {
-        match reason {
-            Reason::Length | Reason::Opening => EDITS.contains(&self),
-            Reason::Tag | Reason::Limit | Reason::Room => EDITS.contains(&self) && self != Call::Undo,
-            Reason::Present | Reason::PresentUnstored | Reason::Blocks | Reason::Slots => self == Call::Add,
-            Reason::Absent => self == Call::Replace || self == Call::Remove,
-            _ => self == Call::Undo,
-        }
     }
 
     /// Whether the call can come to an answer by this cause.
@@ -419,10 +387,6 @@ impl Tally {
         self.unstored[column.expect("a call that reads no element")] += 1;
     }
 
-    pub fn count_reason(&mut self, call: Call, reason: Reason) {
-        self.broken[call as usize][reason as usize] += 1;
-    }
-
     /// The way to an answer, by the layout of the element's record where the call judges that.
     pub fn count_way(&mut self, call: Call, layout: Option<Layout>, way: Way) {
         let column = READS.iter().position(|(known, of, _)| (*known, *of) == (call, layout));
@@ -461,10 +425,9 @@ impl Tally {
     pub fn add(&mut self, other: &Tally) {
         self.files += other.files;
         self.sequences += other.sequences;
-        self.undone_starts += other.undone_starts;
         add_each(slice::from_mut(&mut self.unstored), &[other.unstored]);
         add_each(&mut self.reached, &other.reached);
-        add_each(&mut self.broken, &other.broken);
+        self.edits.add(&other.edits);
         add_each(&mut self.gone.0, &other.gone.0);
         add_each(&mut self.indices, &other.indices);
         add_each(&mut self.caused.0, &other.caused.0);
@@ -479,7 +442,6 @@ impl Tally {
     pub fn never_reached(&self) -> Vec<String> {
         let name = |call: Call, what: &str| format!("{}: {what}", call.title());
         let numbers = cells(numbers_of(&CALLS)).filter(|(number, call)| self.number(*call, *number) == Some(0));
-        let reasons = cells(REASONS.into_iter()).filter(|((reason, _), call)| self.reason(*call, *reason) == Some(0));
         let numbers = numbers.map(|(number, call)| name(call, &number.to_string()));
         let ways = WAYS.into_iter().flat_map(|(way, title)| self.ways(way).map(move |counted| (counted, title)));
         let ways = ways.filter(|((_, count), _)| *count == Some(0));
@@ -494,10 +456,8 @@ impl Tally {
         let types = types.map(|(code, title, _)| format!("type {code}: {title}"));
         let unstored = WITH_UNSTORED.into_iter().zip(&self.unstored).filter(|(_, count)| **count == 0);
         let unstored = unstored.map(|(call, _)| name(call, "an element that is not stored yet"));
-        let starts = (self.undone_starts == 0).then(|| name(Call::Undo, "an edit before the sequence"));
-        let reasons = reasons.map(|((_, title), call)| name(call, title));
         let of_reading = ways.chain(indices).chain(causes).chain(types);
-        numbers.chain(reasons).chain(of_reading).chain(unstored).chain(starts).collect()
+        numbers.chain(self.edits.never_reached()).chain(of_reading).chain(unstored).collect()
     }
 
     /// How often a call answered a number, where it can.
@@ -534,11 +494,6 @@ impl Tally {
             };
             (code, MEETINGS.into_iter().zip(counts).map(count))
         })
-    }
-
-    /// How often a rule refused a call, where it can.
-    fn reason(&self, call: Call, reason: Reason) -> Option<u64> {
-        call.can_break(reason).then(|| self.broken[call as usize][reason as usize])
     }
 }
 
@@ -579,11 +534,7 @@ impl fmt::Display for Tally {
         for (code, counts) in self.meetings() {
             row(out, &code.to_string(), counts.map(|(_, count)| count))?;
         }
-        head(out, "rule", EDITS.iter().map(|call| call.title()))?;
-        for (reason, title) in REASONS {
-            row(out, title, EDITS.iter().map(|call| self.reason(*call, reason)))?;
-        }
-        Ok(())
+        write!(out, "{}", self.edits)
     }
 }
 

@@ -18,18 +18,20 @@ use std::vec;
 /// let arrived = b"\x0e\x03\x13\x01\0\0\0\0\0\0";
 /// let mut file = hdf4::File::new(arrived.to_vec())?;
 ///
-/// file.add(40000, 5, b"bridge street closed until friday")?;
-/// file.replace(40000, 5, b"bridge street closed until sunday")?;
+/// // Desk 1 adds a mark, and desk 2 corrects it.
+/// file.add(1, 40000, 5, b"bridge street closed until friday")?;
+/// file.replace(2, 40000, 5, b"bridge street closed until sunday")?;
 /// assert_eq!(file.view(40000, 5)?, b"bridge street closed until sunday");
 /// for element in file.elements() {
 ///     println!("tag {} ref {}: {} bytes", element.tag, element.reference, element.length);
 /// }
 ///
-/// // Both edits are taken back, the last one first.
-/// file.undo()?;
-/// file.undo()?;
+/// // Both edits are taken back, the last one first, each by its own desk.
+/// assert_eq!(file.undo(1).unwrap_err().rule, hdf4::Rule::OtherDesk);
+/// file.undo(2)?;
+/// file.undo(1)?;
 /// assert_eq!(file.bytes(), arrived);
-/// assert_eq!(file.undo().unwrap_err().rule, hdf4::Rule::NoEdit);
+/// assert_eq!(file.undo(1).unwrap_err().rule, hdf4::Rule::NoEdit);
 /// # Ok(())
 /// # }
 /// ```
@@ -83,9 +85,9 @@ impl File {
     /// ```
     /// # fn main() -> Result<(), hdf4::Error> {
     /// # let mut file = hdf4::File::new(b"\x0e\x03\x13\x01\0\0\0\0\0\0".to_vec())?;
-    /// file.add(40000, 5, b"bridge street closed")?;
-    /// file.add(40001, 1, b"no road")?;
-    /// file.add(40000, 6, b"pass road closed")?;
+    /// file.add(0, 40000, 5, b"bridge street closed")?;
+    /// file.add(0, 40001, 1, b"no road")?;
+    /// file.add(0, 40000, 6, b"pass road closed")?;
     /// let references: Vec<u16> = file.elements_of(40000).map(|element| element.reference).collect();
     /// assert_eq!(references, [5, 6]);
     /// # Ok(())
@@ -119,7 +121,7 @@ impl File {
     /// ```
     /// # fn main() -> Result<(), hdf4::Error> {
     /// # let mut file = hdf4::File::new(b"\x0e\x03\x13\x01\0\0\0\0\0\0".to_vec())?;
-    /// file.add(40000, 5, b"pass road closed")?;
+    /// file.add(0, 40000, 5, b"pass road closed")?;
     /// assert_eq!(file.copy(40000, 5, 1 << 20)?, b"pass road closed");
     /// assert_eq!(file.copy(40000, 5, 9).unwrap_err().rule, hdf4::Rule::Small);
     /// # Ok(())
@@ -149,26 +151,31 @@ impl File {
         crate::link_reference(&self.bytes, place, link)
     }
 
-    /// Adds an element, as [`add`](crate::add) does. Where there is no memory for it, [`Rule::NoRoom`] refuses it.
-    pub fn add(&mut self, tag: u16, reference: u16, data: &[u8]) -> Result<(), Error> {
-        self.edit(data.len() + EDIT_ROOM, |buffer, length| crate::add(buffer, length, tag, reference, data))
+    /// Adds an element for a desk, as [`add`](crate::add) does. Where there is no memory for it, [`Rule::NoRoom`] refuses it.
+    pub fn add(&mut self, desk: u32, tag: u16, reference: u16, data: &[u8]) -> Result<(), Error> {
+        self.edit(data.len() + EDIT_ROOM, |buffer, length| crate::add(buffer, length, desk, tag, reference, data))
     }
 
-    /// Gives an element other data, as [`replace`](crate::replace) does. Where there is no memory for it, [`Rule::NoRoom`]
-    /// refuses it.
-    pub fn replace(&mut self, tag: u16, reference: u16, data: &[u8]) -> Result<(), Error> {
-        self.edit(data.len() + EDIT_ROOM, |buffer, length| crate::replace(buffer, length, tag, reference, data))
+    /// Gives an element other data for a desk, as [`replace`](crate::replace) does. Where there is no memory for it,
+    /// [`Rule::NoRoom`] refuses it.
+    pub fn replace(&mut self, desk: u32, tag: u16, reference: u16, data: &[u8]) -> Result<(), Error> {
+        self.edit(data.len() + EDIT_ROOM, |buffer, length| crate::replace(buffer, length, desk, tag, reference, data))
     }
 
-    /// Removes an element, as [`remove`](crate::remove) does. The file gets longer by a trailer.
-    pub fn remove(&mut self, tag: u16, reference: u16) -> Result<(), Error> {
-        self.edit(EDIT_ROOM, |buffer, length| crate::remove(buffer, length, tag, reference))
+    /// Removes an element for a desk, as [`remove`](crate::remove) does. The file gets longer by a trailer.
+    pub fn remove(&mut self, desk: u32, tag: u16, reference: u16) -> Result<(), Error> {
+        self.edit(EDIT_ROOM, |buffer, length| crate::remove(buffer, length, desk, tag, reference))
     }
 
-    /// Undoes the last edit that is not undone yet, as [`undo`](crate::undo) does: also one that was made before the file was
-    /// stored and read again.
-    pub fn undo(&mut self) -> Result<(), Error> {
-        self.edit(0, crate::undo)
+    /// Undoes the newest edit for the desk that made it, as [`undo`](crate::undo) does: also one that was made before the file
+    /// was stored and read again.
+    pub fn undo(&mut self, desk: u32) -> Result<(), Error> {
+        self.edit(0, |buffer, length| crate::undo(buffer, length, desk))
+    }
+
+    /// The desk that made the newest edit, as [`newest_desk`](crate::newest_desk) gives it.
+    pub fn newest_desk(&self) -> Option<u32> {
+        crate::newest_desk(&self.bytes)
     }
 
     /// Lends the bytes with room behind them to an edit, and keeps the length that it gives.
@@ -309,7 +316,7 @@ impl IntoIterator for &File {
 #[cfg(test)]
 mod tests {
     use super::*;
-    use crate::tests::{file_of, rule};
+    use crate::tests::{file_of, rule, DESK};
 
     fn file() -> File {
         File::new(file_of(&[(100, 1, b"hub"), (720, 9, b""), (100, 2, b"north")])).unwrap()
@@ -372,13 +379,13 @@ mod tests {
         let not_stored = (Rule::NotStored, 29, 142);
         assert_eq!((rule(file.view(1963, 7)), rule(file.copy(1963, 7, 100))), (not_stored, not_stored));
         assert_eq!((rule(file.size(1963, 7)), file.vdata(7).unwrap().records), (not_stored, 0));
-        assert_eq!(rule(file.add(1963, 7, b"snow")), (Rule::Present, 18, 0));
-        file.replace(1963, 7, b"snow").unwrap();
+        assert_eq!(rule(file.add(DESK, 1963, 7, b"snow")), (Rule::Present, 18, 0));
+        file.replace(DESK, 1963, 7, b"snow").unwrap();
         assert_eq!((file.view(1963, 7), unstored(&file)), (Ok(&b"snow"[..]), vec![]));
-        file.undo().unwrap();
-        file.remove(1963, 7).unwrap();
+        file.undo(DESK).unwrap();
+        file.remove(DESK, 1963, 7).unwrap();
         assert_eq!((rule(file.view(1963, 7)), file.counts().live), ((Rule::Absent, 11, 0), 20));
-        file.undo().unwrap();
+        file.undo(DESK).unwrap();
         assert_eq!(file.bytes(), bytes);
     }
 
@@ -400,27 +407,42 @@ mod tests {
     fn edits_keep_the_length_and_are_undone() {
         let mut file = file();
         let mut stood = vec![file.clone()];
-        file.add(40000, 5, &[7; 1000]).unwrap();
+        file.add(DESK, 40000, 5, &[7; 1000]).unwrap();
         stood.push(file.clone());
-        file.replace(100, 1, b"hubs").unwrap();
+        file.replace(DESK, 100, 1, b"hubs").unwrap();
         stood.push(file.clone());
-        file.remove(100, 2).unwrap();
+        file.remove(DESK, 100, 2).unwrap();
         assert_eq!((file.counts().live, file.view(100, 1), file.view(40000, 5)), (3, Ok(&b"hubs"[..]), Ok(&[7; 1000][..])));
         for before in stood.iter().rev() {
-            file.undo().unwrap();
+            file.undo(DESK).unwrap();
             assert_eq!(&file, before);
         }
-        assert_eq!(rule(file.undo()), (Rule::NoEdit, 20, 0));
+        assert_eq!(rule(file.undo(DESK)), (Rule::NoEdit, 20, 0));
         assert_eq!(file, stood[0]);
+    }
+
+    #[test]
+    fn each_desk_undoes_its_own_edits() {
+        let mut file = file();
+        let before = file.clone();
+        file.add(1, 40000, 5, b"closed").unwrap();
+        file.remove(2, 100, 2).unwrap();
+        let (edited, trailer) = (file.clone(), file.bytes().len() as u64 - 36);
+        assert_eq!((rule(file.undo(1)), file.newest_desk()), ((Rule::OtherDesk, 30, trailer), Some(2)));
+        assert_eq!(file, edited);
+        file.undo(2).unwrap();
+        assert_eq!(file.newest_desk(), Some(1));
+        file.undo(1).unwrap();
+        assert_eq!((&file, file.newest_desk()), (&before, None));
     }
 
     #[test]
     fn edits_outlast_the_file_that_made_them() {
         let mut file = file();
         let before = file.bytes().to_vec();
-        file.remove(720, 9).unwrap();
+        file.remove(DESK, 720, 9).unwrap();
         let mut stored = File::new(file.into_bytes()).unwrap();
-        stored.undo().unwrap();
+        stored.undo(DESK).unwrap();
         assert_eq!(stored.bytes(), before);
     }
 
@@ -428,11 +450,11 @@ mod tests {
     fn a_refused_edit_leaves_the_file_as_it_was() {
         let mut file = file();
         let before = file.clone();
-        assert_eq!(rule(file.add(100, 1, b"again")), (Rule::Present, 18, 0));
-        assert_eq!(rule(file.add(107, 1, b"")), (Rule::BadTag, 7, 0));
-        assert_eq!(rule(file.replace(100, 3, b"")), (Rule::Absent, 11, 0));
-        assert_eq!(rule(file.remove(100, 3)), (Rule::Absent, 11, 0));
-        assert_eq!(rule(file.undo()), (Rule::NoEdit, 20, 0));
+        assert_eq!(rule(file.add(DESK, 100, 1, b"again")), (Rule::Present, 18, 0));
+        assert_eq!(rule(file.add(DESK, 107, 1, b"")), (Rule::BadTag, 7, 0));
+        assert_eq!(rule(file.replace(DESK, 100, 3, b"")), (Rule::Absent, 11, 0));
+        assert_eq!(rule(file.remove(DESK, 100, 3)), (Rule::Absent, 11, 0));
+        assert_eq!(rule(file.undo(DESK)), (Rule::NoEdit, 20, 0));
         assert_eq!(file, before);
     }
 
@@ -441,10 +463,10 @@ mod tests {
         let mut file = file();
         let before = file.clone();
         assert_eq!(
-            rule(file.edit(usize::MAX, |buffer, length| crate::add(buffer, length, 40000, 5, b"a"))),
+            rule(file.edit(usize::MAX, |buffer, length| crate::add(buffer, length, DESK, 40000, 5, b"a"))),
             (Rule::NoRoom, 19, 0)
         );
-        let refused = file.edit(usize::MAX, |buffer, length| crate::add(buffer, length, 100, 1, b"a"));
+        let refused = file.edit(usize::MAX, |buffer, length| crate::add(buffer, length, DESK, 100, 1, b"a"));
         assert_eq!(rule(refused), (Rule::Present, 18, 0));
         assert_eq!(file, before);
     }

@@ -30,6 +30,10 @@
 //! call alters nothing. Each edit leaves a trailer at the end of the image, so that edits can be undone one after the other,
 //! also after the file was stored and read again.
 //!
+//! Every call names the desk that makes it: any number, and 0 by custom where a file has one desk alone. A desk undoes its own
+//! edits: where the newest one is another desk's, [`undo`] is refused with [`Rule::OtherDesk`], and [`newest_desk`] tells whose
+//! it is.
+//!
 //! ```
 //! # fn main() -> Result<(), hdf4::Error> {
 //! // A file without elements, in a buffer with room for one.
@@ -38,16 +42,19 @@
 //! let mut buffer = vec![0; file.len() + closure.len() + hdf4::EDIT_ROOM];
 //! buffer[..file.len()].copy_from_slice(file);
 //!
-//! // Adds the road closure under tag 40000, reference 5.
-//! let length = hdf4::add(&mut buffer, file.len(), 40000, 5, closure)?;
+//! // Desk 2 adds the road closure under tag 40000, reference 5.
+//! let length = hdf4::add(&mut buffer, file.len(), 2, 40000, 5, closure)?;
 //!
 //! // Finds it again.
 //! let image = &buffer[..length];
 //! assert_eq!(hdf4::find(image, 40000, 5)?, 16);
 //! assert_eq!(hdf4::view(image, 40000, 5)?, closure);
 //!
-//! // Takes it back: the file is as it was.
-//! let length = hdf4::undo(&mut buffer, length)?;
+//! // No other desk takes it back.
+//! assert_eq!(hdf4::undo(&mut buffer, length, 1).unwrap_err().rule, hdf4::Rule::OtherDesk);
+//!
+//! // Desk 2 does: the file is as it was.
+//! let length = hdf4::undo(&mut buffer, length, 2)?;
 //! assert_eq!(&buffer[..length], file);
 //! # Ok(())
 //! # }
@@ -57,7 +64,7 @@
 //!
 //! ```compile_fail,E0502
 //! let mut buffer = vec![0; 300];
-//! let _ = hdf4::add(&mut buffer, 37, 40000, 5, &buffer[..3]);
+//! let _ = hdf4::add(&mut buffer, 37, 0, 40000, 5, &buffer[..3]);
 //! ```
 
 #![deny(missing_docs)]
@@ -66,6 +73,7 @@ mod file;
 mod links;
 mod records;
 mod rule;
+mod trailer;
 mod vset;
 
 pub use file::{elements, Elements, File};
@@ -73,6 +81,7 @@ pub use links::{link_reference, CopyError, Link, Links};
 pub use records::{pack_array, pack_dimension, pack_number_type, read_array, read_dimension, read_number_type};
 pub use records::{Array, Dimension, NumberType, Pair};
 pub use rule::Rule;
+pub use trailer::newest_desk;
 pub use vset::{base_type, list_group, pack_group, pack_vdata, read_group, read_value, read_vdata};
 pub use vset::{ByteOrder, Field, Group, Value, Vdata};
 
@@ -86,7 +95,7 @@ use std::fmt;
 pub struct Error {
     /// The rule that is broken.
     pub rule: Rule,
-    /// Where, in bytes from the start of the image: a block's or a slot's place, or 0.
+    /// Where, in bytes from the start of the image: the place of a block, a slot or a trailer, or 0.
     pub place: u64,
 }
 
@@ -159,7 +168,7 @@ impl Element {
     /// let mut file = hdf4::File::new(image.to_vec())?;
     /// assert!(file.elements().all(|element| !element.is_stored()));
     /// assert_eq!(file.view(1963, 7).unwrap_err().rule, hdf4::Rule::NotStored);
-    /// file.replace(1963, 7, b"snow")?;
+    /// file.replace(0, 1963, 7, b"snow")?;
     /// assert!(file.elements().all(|element| element.is_stored()));
     /// # Ok(())
     /// # }
@@ -273,31 +282,34 @@ fn edited(answer: ffi::EditAnswer) -> Result<usize, Error> {
     granted(answer.number, answer.place, answer.length as usize)
 }
 
-/// Adds an element to the image in the first `length` bytes of a buffer. Gives the new length, at most [`EDIT_ROOM`] and the
-/// length of the data above the old one.
+/// Adds an element to the image in the first `length` bytes of a buffer, for a desk. Gives the new length, at most [`EDIT_ROOM`]
+/// and the length of the data above the old one.
 ///
 /// It takes the first free descriptor or, where there is none, one of a new block. The tag is not 0, 1 or 107, and not of the
 /// extended form, 16384 to 32767. An element that is not stored yet is there already: [`replace`] stores it.
-pub fn add(buffer: &mut [u8], length: usize, tag: u16, reference: u16, data: &[u8]) -> Result<usize, Error> {
-    edited(ffi::add(buffer, length as u64, tag, reference, data))
+pub fn add(buffer: &mut [u8], length: usize, desk: u32, tag: u16, reference: u16, data: &[u8]) -> Result<usize, Error> {
+    edited(ffi::add(buffer, length as u64, desk, tag, reference, data))
 }
 
-/// Gives an element of the image in the first `length` bytes of a buffer other data, its first where it is not stored yet. Gives
-/// the new length.
-pub fn replace(buffer: &mut [u8], length: usize, tag: u16, reference: u16, data: &[u8]) -> Result<usize, Error> {
-    edited(ffi::replace(buffer, length as u64, tag, reference, data))
+/// Gives an element of the image in the first `length` bytes of a buffer other data, its first where it is not stored yet, for a
+/// desk. Gives the new length.
+pub fn replace(buffer: &mut [u8], length: usize, desk: u32, tag: u16, reference: u16, data: &[u8]) -> Result<usize, Error> {
+    edited(ffi::replace(buffer, length as u64, desk, tag, reference, data))
 }
 
-/// Removes an element from the image in the first `length` bytes of a buffer. Gives the new length: the image grows by a
-/// trailer, and keeps the element's bytes for an undo.
-pub fn remove(buffer: &mut [u8], length: usize, tag: u16, reference: u16) -> Result<usize, Error> {
-    edited(ffi::remove(buffer, length as u64, tag, reference))
+/// Removes an element from the image in the first `length` bytes of a buffer, for a desk. Gives the new length: the image grows
+/// by a trailer, and keeps the element's bytes for an undo.
+pub fn remove(buffer: &mut [u8], length: usize, desk: u32, tag: u16, reference: u16) -> Result<usize, Error> {
+    edited(ffi::remove(buffer, length as u64, desk, tag, reference))
 }
 
-/// Undoes the last edit of the image in the first `length` bytes of a buffer that is not undone yet. Gives the length before
-/// that edit; the image is then as it was, byte for byte.
-pub fn undo(buffer: &mut [u8], length: usize) -> Result<usize, Error> {
-    edited(ffi::undo(buffer, length as u64))
+/// Undoes the newest edit that the image in the first `length` bytes of a buffer carries, for the desk that made it. Gives the
+/// length before that edit; the image is then as it was, byte for byte.
+///
+/// Another desk is refused with [`Rule::OtherDesk`], at the place of the trailer. An edit from before trailers named a desk is
+/// desk 0's.
+pub fn undo(buffer: &mut [u8], length: usize, desk: u32) -> Result<usize, Error> {
+    edited(ffi::undo(buffer, length as u64, desk))
 }
 
 #[cfg(test)]
@@ -417,11 +429,14 @@ pub(crate) mod tests {
         assert_eq!(choose(&A, b"", 100, 1).unwrap_err().rule, Rule::NotHdf);
     }
 
+    /// The desk that edits.
+    pub const DESK: u32 = 0x0102_0304;
+
     /// File A after the add of marked case 12: 40000/5 with byte 2a in the second slot, then the trailer.
-    const A_ADDED: [u8; 70] = *b"\x0e\x03\x13\x01\x00\x02\x00\x00\x00\x00\x00\x64\x00\x01\x00\x00\x00\x22\x00\x00\x00\x03\
+    const A_ADDED: [u8; 74] = *b"\x0e\x03\x13\x01\x00\x02\x00\x00\x00\x00\x00\x64\x00\x01\x00\x00\x00\x22\x00\x00\x00\x03\
                                  \x9c\x40\x00\x05\x00\x00\x00\x25\x00\x00\x00\x01hub\x2a\
                                  \x00\x00\x00\x16\x00\x00\x00\x0c\x00\x01\x00\x00\x00\x00\x00\x00\x00\x00\x00\x00\
-                                 \x00\x00\x00\x25\x00\x00\x00\x00\x42\x41\x43\x4b";
+                                 \x00\x00\x00\x25\x00\x00\x00\x00\x01\x02\x03\x04\x42\x41\x43\x32";
 
     const BEHIND: u8 = 0xee;
 
@@ -504,42 +519,90 @@ pub(crate) mod tests {
     #[test]
     fn two_adds_and_three_undos() {
         let mut buffer = lent(400);
-        assert_eq!(add(&mut buffer, 37, 40000, 5, b"\x2a"), Ok(70));
-        assert_eq!(buffer[..70], A_ADDED);
-        assert!(buffer[70..].iter().all(|byte| *byte == BEHIND));
-        assert_eq!(find(&buffer[..70], 40000, 5), Ok(22));
+        assert_eq!(add(&mut buffer, 37, DESK, 40000, 5, b"\x2a"), Ok(74));
+        assert_eq!(buffer[..74], A_ADDED);
+        assert!(buffer[74..].iter().all(|byte| *byte == BEHIND));
+        assert_eq!(find(&buffer[..74], 40000, 5), Ok(22));
 
-        assert_eq!(add(&mut buffer, 70, 40000, 6, b"\x2b"), Ok(301));
-        assert_eq!(open(&buffer[..301]), Ok(Counts { blocks: 2, slots: 18, live: 3 }));
+        assert_eq!(add(&mut buffer, 74, DESK, 40000, 6, b"\x2b"), Ok(309));
+        assert_eq!(open(&buffer[..309]), Ok(Counts { blocks: 2, slots: 18, live: 3 }));
 
-        assert_eq!(undo(&mut buffer, 301), Ok(70));
-        assert_eq!(buffer[..70], A_ADDED);
-        assert_eq!(undo(&mut buffer, 70), Ok(37));
+        assert_eq!(undo(&mut buffer, 309, DESK), Ok(74));
+        assert_eq!(buffer[..74], A_ADDED);
+        assert_eq!(undo(&mut buffer, 74, DESK), Ok(37));
         assert_eq!(buffer[..37], A);
-        assert_eq!(rule(undo(&mut buffer, 37)), (Rule::NoEdit, 20, 0));
+        assert_eq!(rule(undo(&mut buffer, 37, DESK)), (Rule::NoEdit, 20, 0));
         assert_eq!(buffer[..37], A);
     }
 
     #[test]
     fn an_edit_without_room_alters_nothing() {
-        let mut buffer = lent(300);
-        assert_eq!(add(&mut buffer, 37, 40000, 5, b"\x2a"), Ok(70));
+        let mut buffer = lent(308);
+        assert_eq!(add(&mut buffer, 37, DESK, 40000, 5, b"\x2a"), Ok(74));
         let before = buffer.clone();
-        assert_eq!(rule(add(&mut buffer, 70, 40000, 6, b"\x2b")), (Rule::NoRoom, 19, 0));
+        assert_eq!(rule(add(&mut buffer, 74, DESK, 40000, 6, b"\x2b")), (Rule::NoRoom, 19, 0));
         assert_eq!(buffer, before);
-        assert_eq!(undo(&mut buffer, 70), Ok(37));
+        assert_eq!(undo(&mut buffer, 74, DESK), Ok(37));
         assert_eq!(buffer[..37], A);
     }
 
     #[test]
     fn replace_and_remove_are_undone() {
         let mut buffer = lent(37 + 2 * EDIT_ROOM);
-        let replaced = replace(&mut buffer, 37, 100, 1, b"hubs").unwrap();
+        let replaced = replace(&mut buffer, 37, DESK, 100, 1, b"hubs").unwrap();
         assert_eq!(list(&buffer[..replaced]), Ok(vec![Element { tag: 100, reference: 1, offset: 37, length: 4 }]));
-        let removed = remove(&mut buffer, replaced, 100, 1).unwrap();
+        let removed = remove(&mut buffer, replaced, DESK, 100, 1).unwrap();
         assert_eq!(list(&buffer[..removed]), Ok(vec![]));
-        assert_eq!(undo(&mut buffer, removed), Ok(replaced));
-        assert_eq!(undo(&mut buffer, replaced), Ok(37));
+        assert_eq!(undo(&mut buffer, removed, DESK), Ok(replaced));
+        assert_eq!(undo(&mut buffer, replaced, DESK), Ok(37));
+        assert_eq!(buffer[..37], A);
+    }
+
+    /// An edit of an image of some length, for a desk.
+    type Edit = fn(&mut [u8], usize, u32) -> Result<usize, Error>;
+
+    #[test]
+    fn a_desk_undoes_its_own_edits_alone() {
+        let mut buffer = lent(400);
+        let edits: [Edit; 3] = [
+            |buffer, length, desk| add(buffer, length, desk, 40000, 5, b"\x2a"),
+            |buffer, length, desk| replace(buffer, length, desk, 40000, 5, b"\x2b\x2c"),
+            |buffer, length, desk| remove(buffer, length, desk, 100, 1),
+        ];
+        let desks = [1, u32::MAX, 0];
+        let mut lengths = vec![37];
+        for (edit, desk) in edits.iter().zip(desks) {
+            lengths.push(edit(&mut buffer, lengths[lengths.len() - 1], desk).unwrap());
+        }
+        assert_eq!(lengths, [37, 74, 112, 148]);
+        for (index, desk) in desks.into_iter().enumerate().rev() {
+            let (before, length) = (buffer.clone(), lengths[index + 1]);
+            assert_eq!(newest_desk(&buffer[..length]), Some(desk));
+            for other in desks.into_iter().filter(|other| *other != desk) {
+                assert_eq!(rule(undo(&mut buffer, length, other)), (Rule::OtherDesk, 30, length as u64 - 36));
+                assert_eq!(buffer, before);
+            }
+            assert_eq!(undo(&mut buffer, length, desk), Ok(lengths[index]));
+        }
+        assert_eq!((&buffer[..37], newest_desk(&buffer[..37])), (&A[..], None));
+    }
+
+    #[test]
+    fn an_edit_from_before_trailers_named_a_desk_is_desk_0s() {
+        let mut buffer = [&A_ADDED[..66], b"\x42\x41\x43\x4b"].concat();
+        buffer.resize(400, BEHIND);
+        let before = buffer.clone();
+        assert_eq!(newest_desk(&buffer[..70]), Some(0));
+        assert_eq!(rule(undo(&mut buffer, 70, 1)), (Rule::OtherDesk, 30, 38));
+        assert_eq!(buffer, before);
+
+        // An edit on top of it leaves a trailer with its desk.
+        let removed = remove(&mut buffer, 70, 1, 100, 1).unwrap();
+        assert_eq!((removed, newest_desk(&buffer[..removed])), (106, Some(1)));
+        assert_eq!(rule(undo(&mut buffer, removed, 0)), (Rule::OtherDesk, 30, 70));
+        assert_eq!(undo(&mut buffer, removed, 1), Ok(70));
+        assert_eq!(buffer[..70], before[..70]);
+        assert_eq!(undo(&mut buffer, 70, 0), Ok(37));
         assert_eq!(buffer[..37], A);
     }
 
@@ -548,36 +611,38 @@ pub(crate) mod tests {
         let image = unstored(A.to_vec(), 0);
         let mut buffer = image.clone();
         buffer.resize(37 + EDIT_ROOM, BEHIND);
-        assert_eq!(rule(add(&mut buffer, 37, 100, 1, b"")), (Rule::Present, 18, 0));
-        let replaced = replace(&mut buffer, 37, 100, 1, b"hubs").unwrap();
+        assert_eq!(rule(add(&mut buffer, 37, DESK, 100, 1, b"")), (Rule::Present, 18, 0));
+        let replaced = replace(&mut buffer, 37, DESK, 100, 1, b"hubs").unwrap();
         assert_eq!(view(&buffer[..replaced], 100, 1), Ok(&b"hubs"[..]));
-        assert_eq!(undo(&mut buffer, replaced), Ok(37));
+        assert_eq!(undo(&mut buffer, replaced, DESK), Ok(37));
         assert_eq!(buffer[..37], image);
-        let removed = remove(&mut buffer, 37, 100, 1).unwrap();
+        let removed = remove(&mut buffer, 37, DESK, 100, 1).unwrap();
         assert_eq!(list(&buffer[..removed]), Ok(vec![]));
-        assert_eq!(undo(&mut buffer, removed), Ok(37));
+        assert_eq!(undo(&mut buffer, removed, DESK), Ok(37));
         assert_eq!(buffer[..37], image);
     }
 
     #[test]
     fn edits_are_refused_by_their_rules() {
         let mut buffer = lent(400);
-        assert_eq!(rule(add(&mut buffer, 37, 100, 1, b"")), (Rule::Present, 18, 0));
-        assert_eq!(rule(add(&mut buffer, 37, 107, 1, b"")), (Rule::BadTag, 7, 0));
-        assert_eq!(rule(replace(&mut buffer, 37, 100, 2, b"")), (Rule::Absent, 11, 0));
-        assert_eq!(rule(remove(&mut buffer, 37, 16484, 1)), (Rule::BadTag, 7, 0));
-        assert_eq!(rule(remove(&mut buffer, 401, 100, 1)), (Rule::TooLong, 1, 0));
-        assert_eq!(rule(undo(&mut buffer, usize::MAX)), (Rule::TooLong, 1, 0));
+        assert_eq!(rule(add(&mut buffer, 37, DESK, 100, 1, b"")), (Rule::Present, 18, 0));
+        assert_eq!(rule(add(&mut buffer, 37, DESK, 107, 1, b"")), (Rule::BadTag, 7, 0));
+        assert_eq!(rule(replace(&mut buffer, 37, DESK, 100, 2, b"")), (Rule::Absent, 11, 0));
+        assert_eq!(rule(remove(&mut buffer, 37, DESK, 16484, 1)), (Rule::BadTag, 7, 0));
+        assert_eq!(rule(remove(&mut buffer, 401, DESK, 100, 1)), (Rule::TooLong, 1, 0));
+        assert_eq!(rule(undo(&mut buffer, usize::MAX, DESK)), (Rule::TooLong, 1, 0));
         assert_eq!(buffer, lent(400));
     }
 
     #[test]
-    fn a_damaged_trailer_is_refused_at_its_place() {
-        let mut buffer = A_ADDED.to_vec();
-        buffer[38 + 27] = 1;
-        let before = buffer.clone();
-        let refused = undo(&mut buffer, 70).unwrap_err();
-        assert_eq!(refused.to_string(), "BAD_TRAILER: the trailer of the last edit is damaged (number 21, place 38)");
-        assert_eq!(buffer, before);
+    fn a_damaged_trailer_is_refused_at_its_place_to_every_desk() {
+        for desk in [DESK, DESK + 1] {
+            let mut buffer = A_ADDED.to_vec();
+            buffer[38 + 27] = 1;
+            let before = buffer.clone();
+            let refused = undo(&mut buffer, 74, desk).unwrap_err();
+            assert_eq!(refused.to_string(), "BAD_TRAILER: the trailer of the last edit is damaged (number 21, place 38)");
+            assert_eq!(buffer, before);
+        }
     }
 }

@@ -65,6 +65,8 @@ pub enum Rule {
     TableLoop,
     /// The element is named and not stored yet: offset and length of its slot are 4294967295.
     NotStored,
+    /// The trailer of the newest edit is another desk's; the place is the trailer's.
+    OtherDesk,
     /// A rule that this crate does not know, by its number: the library that is linked is a newer one.
     Unknown(u64),
 }
@@ -101,6 +103,7 @@ impl Rule {
             hdf4_sys::SHORT_BLOCK => Rule::ShortBlock,
             hdf4_sys::TABLE_LOOP => Rule::TableLoop,
             hdf4_sys::NOT_STORED => Rule::NotStored,
+            hdf4_sys::OTHER_DESK => Rule::OtherDesk,
             other => Rule::Unknown(other),
         }
     }
@@ -136,6 +139,7 @@ impl Rule {
             Rule::ShortBlock => hdf4_sys::SHORT_BLOCK,
             Rule::TableLoop => hdf4_sys::TABLE_LOOP,
             Rule::NotStored => hdf4_sys::NOT_STORED,
+            Rule::OtherDesk => hdf4_sys::OTHER_DESK,
             Rule::Unknown(number) => number,
         }
     }

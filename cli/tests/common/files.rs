@@ -28,6 +28,9 @@ pub fn unstored(mut image: Vec<u8>, slot: usize) -> Vec<u8> {
     image
 }
 
+/// The bytes that an edit puts behind its data, of which the undo is made.
+pub const TRAILER: usize = 36;
+
 /// Numbers of 16 bits, high byte first.
 pub fn shorts(numbers: &[u16]) -> Vec<u8> {
     numbers.iter().flat_map(|number| number.to_be_bytes()).collect()

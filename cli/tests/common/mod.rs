@@ -9,6 +9,7 @@ pub mod terminal;
 
 use std::fs;
 use std::io::ErrorKind;
+use std::os::unix::fs::MetadataExt;
 use std::path::{Path, PathBuf};
 use std::process::{self, Command, Output};
 use std::thread;
@@ -77,8 +78,18 @@ pub fn text(path: &Path) -> &str {
     path.to_str().unwrap()
 }
 
+/// The program, at desk 0 where its words name no other, whoever runs the test.
 pub fn program() -> Command {
-    Command::new(env!("CARGO_BIN_EXE_hdf4"))
+    let mut program = Command::new(env!("CARGO_BIN_EXE_hdf4"));
+    program.env_remove("HDF4_DESK");
+    program
+}
+
+/// The program at a desk that the environment names.
+pub fn program_at(desk: &str) -> Command {
+    let mut program = program();
+    program.env("HDF4_DESK", desk);
+    program
 }
 
 /// A command that must succeed; answers the bytes that it printed.
@@ -113,24 +124,48 @@ pub fn ended_as(status: i32, command: &mut Command) -> (String, String) {
 }
 
 /// A command that must end with a certain status, print nothing and say why in one line, which it answers.
-fn ended_with_a_line(status: i32, words: &[&str]) -> String {
-    let (printed, message) = ended(status, words);
-    assert!(printed.is_empty(), "{words:?}");
-    assert!(message.starts_with("hdf4: ") && message.ends_with('\n') && message.lines().count() == 1, "{words:?}: {message}");
+pub fn ended_with_a_line(status: i32, command: &mut Command) -> String {
+    let (printed, message) = ended_as(status, command);
+    assert!(printed.is_empty(), "{command:?}");
+    assert!(message.starts_with("hdf4: ") && message.ends_with('\n') && message.lines().count() == 1, "{command:?}: {message}");
     message
 }
 
 /// A refusal; answers its line.
 pub fn refused(words: &[&str]) -> String {
-    ended_with_a_line(1, words)
+    ended_with_a_line(1, program().args(words))
+}
+
+/// A command that must be refused and leave the file as it is, not even written again.
+pub fn refused_on(file: &Path, words: &[&str], message: &str) {
+    let before = (fs::read(file).unwrap(), fs::metadata(file).unwrap().ino());
+    let answer = refused(words);
+    assert!(answer.contains(message), "{words:?}: {answer}");
+    assert!(answer.contains(text(file)), "{words:?}: {answer}");
+    assert_eq!((fs::read(file).unwrap(), fs::metadata(file).unwrap().ino()), before, "{words:?}");
+}
+
+/// The desk of a file's newest edit, as its trailer ends.
+pub fn newest_desk(file: &Path) -> u32 {
+    let bytes = fs::read(file).unwrap();
+    let (desk, closing) = bytes[bytes.len() - 8..].split_at(4);
+    assert_eq!(closing, b"BAC2");
+    u32::from_be_bytes(desk.try_into().unwrap())
+}
+
+/// The line that tells a desk that a file's newest edit is another one's.
+pub fn other_desk(file: &Path, newest: u32, desk: u32) -> String {
+    let place = fs::metadata(file).unwrap().len() - files::TRAILER as u64;
+    let whose = format!("the newest edit is desk {newest}'s, and this is desk {desk}");
+    format!("hdf4: {}: OTHER_DESK: {whose} (number 30, place {place})\n", text(file))
 }
 
 /// Wrong use; answers the line that says so.
 pub fn misused(words: &[&str]) -> String {
-    ended_with_a_line(2, words)
+    ended_with_a_line(2, program().args(words))
 }
 
 /// What files or the system do not allow; answers the line that says so.
 pub fn failed(words: &[&str]) -> String {
-    ended_with_a_line(3, words)
+    ended_with_a_line(3, program().args(words))
 }

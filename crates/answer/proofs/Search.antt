@@ -6,7 +6,7 @@ use native.Mathlib.Numerals.{add-one}
 use mathlib.Core.Path.{_≡_, refl, ap, _∙_}
 use mathlib.Core.Logic.{_↔_, inl, inr}
 use mathlib.Core.List.{List, [], _∷_, _++_}
-use mathlib.Core.Bool.{Bool, true, false, false≢true, true≢false}
+use mathlib.Core.Bool.{Bool, true, false, _&&_, false≢true, true≢false}
 use lib.ListN.{length, getD, take, drop, drop-of-length-le}
 use lib.Seq.{drop-cons, getD-take, length-take-le}
 use Rattle.answer.specs.Search.{must, any, hit, miss, first, keep, In}
@@ -23,6 +23,12 @@ pub must-fails : (b : Bool) (n x : ℕ) → b ≡ false → must b n x ≡ n
 unfolding must
 must-fails false n x e = refl
 must-fails true n x e = absurd (true≢false e)
+
+-- two tests with one number
+pub must-and : (a b : Bool) (n x : ℕ) → must (a && b) n x ≡ must a n (must b n x)
+unfolding must
+must-and true b n x = refl
+must-and false b n x = refl
 
 -- what holds of both holds of what it gives
 pub must-either : (P : ℕ → Type 0) (b : Bool) (n x : ℕ) → P n → P x → P (must b n x)

@@ -84,3 +84,6 @@ TABLE-LOOP = 27
 
 abbrev pub NOT-STORED : ℕ
 NOT-STORED = 29
+
+abbrev pub OTHER-DESK : ℕ
+OTHER-DESK = 30

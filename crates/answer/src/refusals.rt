@@ -109,3 +109,7 @@ pub const TABLE_LOOP: usize = 27;
 // The element is named and not stored yet: offset and length of its slot are 4294967295.
 // Says: the element is named in the directory and not stored yet.
 pub const NOT_STORED: usize = 29;
+
+// The trailer of the newest edit is another desk's; the place is the trailer's.
+// Says: the newest edit is another desk's.
+pub const OTHER_DESK: usize = 30;

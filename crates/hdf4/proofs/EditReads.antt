@@ -14,6 +14,7 @@ use Rattle.storage.proofs.Elements.{plain-tag}
 use Rattle.storage.proofs.Views.{granted-view, bytes-granted}
 use Rattle.storage.proofs.Claims.{view-plain, view-absent, copy-plain, copy-absent}
 use Rattle.journal.specs.Outcomes.{Outcome, granted}
+use Rattle.journal.specs.Trailers.{named}
 use Rattle.journal.specs.Buffers.{imageIn, addIn, replaceIn, removeIn}
 use Rattle.journal.specs.History.{remove, edited}
 use Rattle.journal.specs.Rules.{EditTag}
@@ -45,31 +46,31 @@ reads-given t tag ref content r good =
 
 -- ---- The claims
 
-module _ (buffer : List ℕ) (n tag ref : ℕ) (t : List ℕ) where
+module _ (buffer : List ℕ) (n desk tag ref : ℕ) (t : List ℕ) where
   -- the image is the first n bytes of the buffer
   from-image : (o : Outcome) → n ≤ length buffer → imageIn buffer n o ≡ granted t → o ≡ granted t
   from-image o fits e = sym (inside buffer n o fits) ∙ e
 
   -- after a granted add, view and copy of the file give the content
-  pub added-given : (content : List ℕ) → tag < 65536 → ref < 65536 → addIn buffer n tag ref content ≡ granted t → GivesContent t tag ref content
+  pub added-given : (content : List ℕ) → tag < 65536 → ref < 65536 → addIn buffer n desk tag ref content ≡ granted t → GivesContent t tag ref content
   unfolding addIn
   added-given content b₁ b₂ e =
-      let h = add-granted buffer n tag ref content .0 (t, e) in
-      reads-given t tag ref content (added-reads (take n buffer) (length buffer) tag ref content t b₁ b₂ (from-image _ (h .0) e)) (h .1 .1 .0)
+      let h = add-granted buffer n desk tag ref content .0 (t, e) in
+      reads-given t tag ref content (added-reads (take n buffer) (length buffer) (named desk) tag ref content t b₁ b₂ (from-image _ (h .0) e)) (h .1 .1 .0)
 
   -- after a granted replace too
-  pub replaced-given : (content : List ℕ) → tag < 65536 → ref < 65536 → replaceIn buffer n tag ref content ≡ granted t → GivesContent t tag ref content
+  pub replaced-given : (content : List ℕ) → tag < 65536 → ref < 65536 → replaceIn buffer n desk tag ref content ≡ granted t → GivesContent t tag ref content
   unfolding replaceIn
   replaced-given content b₁ b₂ e =
-      let h = replace-granted buffer n tag ref content .0 (t, e) in
-      reads-given t tag ref content (replaced-reads (take n buffer) (length buffer) tag ref content t b₁ b₂ (from-image _ (h .0) e)) (h .1 .1 .0)
+      let h = replace-granted buffer n desk tag ref content .0 (t, e) in
+      reads-given t tag ref content (replaced-reads (take n buffer) (length buffer) (named desk) tag ref content t b₁ b₂ (from-image _ (h .0) e)) (h .1 .1 .0)
 
   -- after a granted remove both answer 11
-  pub removed-given : tag < 65536 → ref < 65536 → removeIn buffer n tag ref ≡ granted t → GivesNothing t tag ref
+  pub removed-given : tag < 65536 → ref < 65536 → removeIn buffer n desk tag ref ≡ granted t → GivesNothing t tag ref
   unfolding removeIn edited
   removed-given b₁ b₂ e =
-      let h = remove-granted buffer n tag ref .0 (t, e) in
+      let h = remove-granted buffer n desk tag ref .0 (t, e) in
       let made = from-image _ (h .0) e in
-      let opens = stays-accepted (take n buffer) (length buffer) (remove tag ref) t (b₁, b₂) made in
-      let none = find-absent t tag ref opens .0 (removed-absent (take n buffer) (length buffer) tag ref t made) in
+      let opens = stays-accepted (take n buffer) (length buffer) (named desk) (remove tag ref) t (b₁, b₂) made in
+      let none = find-absent t tag ref opens .0 (removed-absent (take n buffer) (length buffer) (named desk) tag ref t made) in
       record { viewed = view-absent t tag ref opens none; copied = λ room. copy-absent t tag ref room opens none }

@@ -142,15 +142,15 @@ outcome-proper : (o : Outcome) → Positive o → Proper 1 (outcomeAnswer o)
 outcome-proper (granted file) h = proper-grant 1 _
 outcome-proper (refused number place) h = proper-refuse 1 number place (h .told number place refl)
 
-module _ (buffer : List ℕ) (n tag ref : ℕ) where
-  pub add-proper : (content : List ℕ) → Proper 1 (outcomeAnswer (addIn buffer n tag ref content))
-  add-proper content = outcome-proper _ (add-positive buffer n tag ref content)
+module _ (buffer : List ℕ) (n desk tag ref : ℕ) where
+  pub add-proper : (content : List ℕ) → Proper 1 (outcomeAnswer (addIn buffer n desk tag ref content))
+  add-proper content = outcome-proper _ (add-positive buffer n desk tag ref content)
 
-  pub replace-proper : (content : List ℕ) → Proper 1 (outcomeAnswer (replaceIn buffer n tag ref content))
-  replace-proper content = outcome-proper _ (replace-positive buffer n tag ref content)
+  pub replace-proper : (content : List ℕ) → Proper 1 (outcomeAnswer (replaceIn buffer n desk tag ref content))
+  replace-proper content = outcome-proper _ (replace-positive buffer n desk tag ref content)
 
-  pub remove-proper : Proper 1 (outcomeAnswer (removeIn buffer n tag ref))
-  remove-proper = outcome-proper _ (remove-positive buffer n tag ref)
+  pub remove-proper : Proper 1 (outcomeAnswer (removeIn buffer n desk tag ref))
+  remove-proper = outcome-proper _ (remove-positive buffer n desk tag ref)
 
-pub undo-proper : (buffer : List ℕ) (n : ℕ) → Proper 1 (outcomeAnswer (undoIn buffer n))
-undo-proper buffer n = outcome-proper _ (undo-positive buffer n)
+pub undo-proper : (buffer : List ℕ) (n desk : ℕ) → Proper 1 (outcomeAnswer (undoIn buffer n desk))
+undo-proper buffer n desk = outcome-proper _ (undo-positive buffer n desk)

@@ -41,10 +41,10 @@ pub data AnyCall : Type 0 where
   hdf4-size : List ℕ → ℕ → ℕ → AnyCall
   hdf4-copy : List ℕ → ℕ → ℕ → List ℕ → AnyCall
   hdf4-choose : List ℕ → List ℕ → ℕ → ℕ → AnyCall
-  hdf4-add : List ℕ → ℕ → ℕ → ℕ → List ℕ → AnyCall
-  hdf4-replace : List ℕ → ℕ → ℕ → ℕ → List ℕ → AnyCall
-  hdf4-remove : List ℕ → ℕ → ℕ → ℕ → AnyCall
-  hdf4-undo : List ℕ → ℕ → AnyCall
+  hdf4-add : List ℕ → ℕ → ℕ → ℕ → ℕ → List ℕ → AnyCall
+  hdf4-replace : List ℕ → ℕ → ℕ → ℕ → ℕ → List ℕ → AnyCall
+  hdf4-remove : List ℕ → ℕ → ℕ → ℕ → ℕ → AnyCall
+  hdf4-undo : List ℕ → ℕ → ℕ → AnyCall
   hdf4-read-number-type : List ℕ → ℕ → AnyCall
   hdf4-read-dimension : List ℕ → ℕ → ℕ → AnyCall
   hdf4-read-array : List ℕ → ℕ → List ℕ → List ℕ → AnyCall
@@ -94,10 +94,10 @@ contractOf (hdf4-size s tag ref) = answering 1 (sizeOf s tag ref)
 contractOf (hdf4-copy s tag ref out) =
     let answer = copyOf s tag ref (length out) in fillingCarrying 1 (linkIndex answer) answer (numbers (elementBytes s tag ref) out ∷ [])
 contractOf (hdf4-choose s t tag ref) = giving 3 (chooseOf s t tag ref) (chosenBytes s t (chooseOf s t tag ref))
-contractOf (hdf4-add buffer n tag ref content) = editing (addIn buffer n tag ref content) buffer
-contractOf (hdf4-replace buffer n tag ref content) = editing (replaceIn buffer n tag ref content) buffer
-contractOf (hdf4-remove buffer n tag ref) = editing (removeIn buffer n tag ref) buffer
-contractOf (hdf4-undo buffer n) = editing (undoIn buffer n) buffer
+contractOf (hdf4-add buffer n desk tag ref content) = editing (addIn buffer n desk tag ref content) buffer
+contractOf (hdf4-replace buffer n desk tag ref content) = editing (replaceIn buffer n desk tag ref content) buffer
+contractOf (hdf4-remove buffer n desk tag ref) = editing (removeIn buffer n desk tag ref) buffer
+contractOf (hdf4-undo buffer n desk) = editing (undoIn buffer n desk) buffer
 contractOf (hdf4-read-number-type s ref) = answering 4 (numberTypeOf s ref)
 contractOf (hdf4-read-dimension s tag ref) = answering 8 (dimensionOf s tag ref)
 contractOf (hdf4-read-array s ref sizes pairs) =

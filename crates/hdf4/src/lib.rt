@@ -313,21 +313,23 @@ fn edit_answer(edited: Edited) -> EditAnswer
 //
 // The image is the first `n` bytes of a lent buffer; an `n` over the buffer's length is refused. The new image stands at the front of the
 // buffer, and the bytes behind its end stay as they were. An edit changes one descriptor, or links one new block, and appends the data and a
-// trailer that says how to undo it: the image grows by the data and at most `EDIT_ROOM` bytes more. The data may not lie in the buffer. The
-// tag is not 0, 1 or 107, and not of the extended form, 16384 to 32767.
+// trailer that says how to undo it and which desk made it: the image grows by the data and at most `EDIT_ROOM` bytes more. The data may not
+// lie in the buffer. The tag is not 0, 1 or 107, and not of the extended form, 16384 to 32767. The desk is any number: who edits a file alone
+// names 0.
 
 // Adds an element with its data, in the first free slot or in a new block.
 #[no_mangle]
 pub extern "C" fn hdf4_add(
     buffer: &mut [u8],
     n: u64,
+    desk: u32,
     tag: u16,
     reference: u16,
     content: &[u8],
 ) -> EditAnswer
-    ensures { λ r. ⌜ Edits (addIn (now (buffer .entry)) n tag reference (now (content .entry))) (now (buffer .entry)) (now (buffer .exit)) r ⌝ }
+    ensures { λ r. ⌜ Edits (addIn (now (buffer .entry)) n desk tag reference (now (content .entry))) (now (buffer .entry)) (now (buffer .exit)) r ⌝ }
 {
-    edit_answer(journal::add(buffer, n as usize, tag, reference, content))
+    edit_answer(journal::add(buffer, n as usize, desk, tag, reference, content))
 }
 
 // Gives an element other data.
@@ -335,28 +337,37 @@ pub extern "C" fn hdf4_add(
 pub extern "C" fn hdf4_replace(
     buffer: &mut [u8],
     n: u64,
+    desk: u32,
     tag: u16,
     reference: u16,
     content: &[u8],
 ) -> EditAnswer
-    ensures { λ r. ⌜ Edits (replaceIn (now (buffer .entry)) n tag reference (now (content .entry)))
+    ensures { λ r. ⌜ Edits (replaceIn (now (buffer .entry)) n desk tag reference (now (content .entry)))
         (now (buffer .entry)) (now (buffer .exit)) r ⌝ }
 {
-    edit_answer(journal::replace(buffer, n as usize, tag, reference, content))
+    edit_answer(journal::replace(buffer, n as usize, desk, tag, reference, content))
 }
 
 // Removes an element.
 #[no_mangle]
-pub extern "C" fn hdf4_remove(buffer: &mut [u8], n: u64, tag: u16, reference: u16) -> EditAnswer
-    ensures { λ r. ⌜ Edits (removeIn (now (buffer .entry)) n tag reference) (now (buffer .entry)) (now (buffer .exit)) r ⌝ }
+pub extern "C" fn hdf4_remove(
+    buffer: &mut [u8],
+    n: u64,
+    desk: u32,
+    tag: u16,
+    reference: u16,
+) -> EditAnswer
+    ensures { λ r. ⌜ Edits (removeIn (now (buffer .entry)) n desk tag reference) (now (buffer .entry)) (now (buffer .exit)) r ⌝ }
 {
-    edit_answer(journal::remove(buffer, n as usize, tag, reference))
+    edit_answer(journal::remove(buffer, n as usize, desk, tag, reference))
 }
 
-// Undoes the last edit that is not undone yet: the image is as before it, byte for byte.
+// Undoes the newest edit that the image carries, for the desk that made it: the image is as before the edit, byte for byte. Another desk is
+// refused with `OTHER_DESK`, at the place of the edit's trailer. The trailer ends the image. If it has 36 bytes, the four before its last four are
+// the desk, most significant byte first; if it has 32, it is from before trailers named a desk, and desk 0's.
 #[no_mangle]
-pub extern "C" fn hdf4_undo(buffer: &mut [u8], n: u64) -> EditAnswer
-    ensures { λ r. ⌜ Edits (undoIn (now (buffer .entry)) n) (now (buffer .entry)) (now (buffer .exit)) r ⌝ }
+pub extern "C" fn hdf4_undo(buffer: &mut [u8], n: u64, desk: u32) -> EditAnswer
+    ensures { λ r. ⌜ Edits (undoIn (now (buffer .entry)) n desk) (now (buffer .entry)) (now (buffer .exit)) r ⌝ }
 {
-    edit_answer(journal::undo(buffer, n as usize))
+    edit_answer(journal::undo(buffer, n as usize, desk))
 }

@@ -7,7 +7,7 @@ pub const MOST_BYTES: usize = 2147483647;
 pub const MOST_ELEMENTS: usize = 4096;
 
 // The most bytes by which an edit makes an image longer, besides its data: a block of descriptors and a trailer.
-pub const EDIT_ROOM: usize = 230;
+pub const EDIT_ROOM: usize = 234;
 
 // The most fields that a Vdata has.
 pub const MOST_FIELDS: usize = 256;

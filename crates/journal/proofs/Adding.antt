@@ -28,7 +28,7 @@ use Rattle.directory.proofs.Rules.{opens-kept, chain-kept}
 use Rattle.directory.proofs.Opens.{opened-last, opened-with}
 use Rattle.directory.proofs.Named.{found-named}
 use Rattle.directory.proofs.Claims.{counts}
-use Rattle.journal.specs.Trailers.{slot-size}
+use Rattle.journal.specs.Trailers.{slot-size, named}
 use Rattle.journal.specs.Edits.{block-slots, block-size, dataSlot, newBlock, slotEdit, blockEdit, fitted, firstFree, addAt}
 use Rattle.journal.specs.Buffers.{Leaves}
 use Rattle.journal.specs.Steps.Changes.{Editable, slotIn, blockIn, newIn}
@@ -93,12 +93,12 @@ module _ (l : List ℕ) (n blocks slots live : ℕ) (fits : n ≤ length l) (o :
     pub slot-room : (n ≤ most-bytes) × (n ≤ length l) × (p + slot-size ≤ n)
     slot-room = (image-short l n fits opened, fits, place-inside p (first-hit (λ q. not (liveAt (take n l) q)) (slotsOf (take n l)) p slot-free .0))
 
-    pub add-slot : (tag ref : ℕ) (content after : List ℕ) (r : Edited) → Leaves (slotIn l n p tag ref content) l after r
-        → Leaves (newIn l n tag ref content) l after r
+    pub add-slot : (desk tag ref : ℕ) (content after : List ℕ) (r : Edited) → Leaves (slotIn l n p desk tag ref content) l after r
+        → Leaves (newIn l n desk tag ref content) l after r
     unfolding addAt
-    add-slot tag ref content after r =
-        leaves-same {p = slotIn l n p tag ref content} l after r (ap (addAt (take n l) (length l) tag ref content) slot-free
-        ∙ ap (λ k. fitted (length l) (slotEdit (take n l) p (dataSlot tag ref content k) content)) long)
+    add-slot desk tag ref content after r =
+        leaves-same {p = slotIn l n p desk tag ref content} l after r (ap (addAt (take n l) (length l) (named desk) tag ref content) slot-free
+        ∙ ap (λ k. fitted (length l) (slotEdit (take n l) (named desk) p (dataSlot tag ref content k) content)) long)
 
   module _ (b : ℕ) (room : roomOf (take n l) blocks ≡ Block b) where
     no-free : firstFree (take n l) ≡ miss
@@ -115,7 +115,7 @@ module _ (l : List ℕ) (n blocks slots live : ℕ) (fits : n ≤ length l) (o :
     last-room =
         (image-short l n fits opened, fits, omega (arith, last-is, long, last-inside (take n l) (blocksOf (take n l)) (opens-kept (take n l) opened)))
 
-    module _ (tag ref : ℕ) (content : List ℕ) where
+    module _ (desk tag ref : ℕ) (content : List ℕ) where
       -- whether a block more would be too many
       abbrev many : Bool
       many = leb most-blocks (length (blocksOf (take n l)))
@@ -123,26 +123,26 @@ module _ (l : List ℕ) (n blocks slots live : ℕ) (fits : n ≤ length l) (o :
       abbrev full : Bool
       full = ltb most-slots (length (slotsOf (take n l)) + block-slots)
 
-      add-full : many || full ≡ true → Leaves (newIn l n tag ref content) l l (Refused (record { number = DIR-BIG; place = 0 }))
+      add-full : many || full ≡ true → Leaves (newIn l n desk tag ref content) l l (Refused (record { number = DIR-BIG; place = 0 }))
       unfolding addAt
-      add-full h = refuses l _ (ap (addAt (take n l) (length l) tag ref content) no-free ∙ on-true (many || full) _ _ h) (suc-ne-zero 5)
+      add-full h = refuses l _ (ap (addAt (take n l) (length l) (named desk) tag ref content) no-free ∙ on-true (many || full) _ _ h) (suc-ne-zero 5)
 
-      pub add-blocks : most-blocks ≤ blocks → Leaves (newIn l n tag ref content) l l (Refused (record { number = DIR-BIG; place = 0 }))
+      pub add-blocks : most-blocks ≤ blocks → Leaves (newIn l n desk tag ref content) l l (Refused (record { number = DIR-BIG; place = 0 }))
       add-blocks h = add-full (or-either many full (inl (le-leb most-blocks (length (blocksOf (take n l))) (omega (arith, blocks-are)))))
 
-      pub add-slots : most-slots < slots + block-slots → Leaves (newIn l n tag ref content) l l (Refused (record { number = DIR-BIG; place = 0 }))
+      pub add-slots : most-slots < slots + block-slots → Leaves (newIn l n desk tag ref content) l l (Refused (record { number = DIR-BIG; place = 0 }))
       add-slots h = add-full (or-either many full (inr (lt-ltb most-slots (length (slotsOf (take n l)) + block-slots) (omega (arith, slots-are)))))
 
-      pub add-block : blocks < most-blocks → slots + block-slots ≤ most-slots → (after : List ℕ) (r : Edited) → Leaves (blockIn l n b tag ref content) l after r
-          → Leaves (newIn l n tag ref content) l after r
+      pub add-block : blocks < most-blocks → slots + block-slots ≤ most-slots → (after : List ℕ) (r : Edited) → Leaves (blockIn l n b desk tag ref content) l after r
+          → Leaves (newIn l n desk tag ref content) l after r
       unfolding addAt
       add-block few h after r =
           let spare = or-neither many full (lt-leb most-blocks (length (blocksOf (take n l))) (omega (arith, blocks-are)))
           (le-ltb most-slots (length (slotsOf (take n l)) + block-slots) (omega (arith, slots-are))) in
-          leaves-same {p = blockIn l n b tag ref content} l after r (ap (addAt (take n l) (length l) tag ref content) no-free
+          leaves-same {p = blockIn l n b desk tag ref content} l after r (ap (addAt (take n l) (length l) (named desk) tag ref content) no-free
           ∙ on-false (many || full) _ _ spare
-          ∙ ap (λ k. fitted (length l) (blockEdit (take n l) (lastOf 4 (blocksOf (take n l))) (newBlock (dataSlot tag ref content (k + block-size))) content)) long
-          ∙ ap (λ k. fitted (length l) (blockEdit (take n l) k (newBlock (dataSlot tag ref content (n + block-size))) content)) last-is)
+          ∙ ap (λ k. fitted (length l) (blockEdit (take n l) (named desk) (lastOf 4 (blocksOf (take n l))) (newBlock (dataSlot tag ref content (k + block-size))) content)) long
+          ∙ ap (λ k. fitted (length l) (blockEdit (take n l) (named desk) k (newBlock (dataSlot tag ref content (n + block-size))) content)) last-is)
 
 -- the slot of an element that was found
 pub target-room : (l : List ℕ) (n tag ref p : ℕ) → Editable l n tag → find (take n l) tag ref ≡ hit p

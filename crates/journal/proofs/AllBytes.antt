@@ -9,9 +9,11 @@ use Rattle.wire.specs.Numbers.{bytes, put, Bytes, bytesIn}
 use Rattle.wire.specs.Layouts.{pack}
 use Rattle.wire.proofs.Numbers.{bytes-take}
 use Rattle.directory.specs.Limits.{free-tag}
-use Rattle.journal.specs.Trailers.{slot-size, link-size, trailerBytes, changeAt, oldBytes}
+use Rattle.journal.specs.Trailers.{slot-size, link-size, trailerBytes, Author, formOf, changeAt, oldBytes}
 use Rattle.journal.specs.Undos.{restored}
 use Rattle.journal.specs.declared.change.Change.{Change}
+use Rattle.journal.specs.declared.change.Form.{Form}
+use Rattle.journal.specs.declared.change.Form.the-variants.{Old, Long}
 use Rattle.journal.specs.Edits.{slotBytes, freeSlot, freeSlots, newBlock, block-slots, dataOffset, dataSlot, slotEdit, blockEdit}
 
 -- ---- Lists of bytes
@@ -58,11 +60,16 @@ all-number k x = record { all = bytes-number k x }
 all-put : {s vs : List ℕ} (at : ℕ) → AllBytes s → AllBytes vs → AllBytes (put s at vs)
 all-put {s} {vs} at h g = record { all = bytes-put s at vs (h .all) (g .all) }
 
-all-trailer : (c : Change) → AllBytes (trailerBytes c)
+-- the seven fields of a trailer of either form, then those that close it
+all-fields : {rest : List ℕ} (c : Change) → AllBytes rest
+    → AllBytes (bytes 4 (c .place) ++ (bytes 4 (c .altered) ++ (bytes 4 (c .first) ++ (bytes 4 (c .second) ++ (bytes 4 (c .third) ++ (bytes 4 (c .before) ++ (bytes 4 (c .previous) ++ rest)))))))
+all-fields c h =
+    all-number 4 _ then (all-number 4 _ then (all-number 4 _ then (all-number 4 _ then (all-number 4 _ then (all-number 4 _ then (all-number 4 _ then h))))))
+
+all-trailer : (form : Form) (c : Change) → AllBytes (trailerBytes form c)
 unfolding trailerBytes pack
-all-trailer c =
-    all-number 4 _ then (all-number 4 _ then (all-number 4 _ then (all-number 4 _ then (all-number 4 _ then (all-number 4 _
-    then (all-number 4 _ then (all-number 4 _ then record { all = bytes-nil })))))))
+all-trailer Old c = all-fields c (all-number 4 _ then record { all = bytes-nil })
+all-trailer Long c = all-fields c (all-number 4 _ then (all-number 4 _ then record { all = bytes-nil }))
 
 all-old : (c : Change) → AllBytes (oldBytes c)
 unfolding oldBytes
@@ -98,25 +105,25 @@ bytes-data tag ref content at = all-slot tag ref (dataOffset content at) (length
 
 -- ---- The file after an edit, and the one that undo restores
 
-all-slot-edit : {s slot content : List ℕ} (p : ℕ) → AllBytes s → AllBytes slot → AllBytes content → AllBytes (slotEdit s p slot content)
+all-slot-edit : {s slot content : List ℕ} (author : Author) (p : ℕ) → AllBytes s → AllBytes slot → AllBytes content → AllBytes (slotEdit s author p slot content)
 unfolding slotEdit
-all-slot-edit {s} p h g c = all-put p h g then c then all-trailer (changeAt s p slot-size)
+all-slot-edit {s} author p h g c = all-put p h g then c then all-trailer (formOf author) (changeAt s author p slot-size)
 
-all-block-edit : {s block content : List ℕ} (b : ℕ) → AllBytes s → AllBytes block → AllBytes content → AllBytes (blockEdit s b block content)
+all-block-edit : {s block content : List ℕ} (author : Author) (b : ℕ) → AllBytes s → AllBytes block → AllBytes content → AllBytes (blockEdit s author b block content)
 unfolding blockEdit
-all-block-edit {s} b h g c =
-    all-put (b + 2) h (all-number 4 (length s)) then g then c then all-trailer (changeAt s (b + 2) link-size)
+all-block-edit {s} author b h g c =
+    all-put (b + 2) h (all-number 4 (length s)) then g then c then all-trailer (formOf author) (changeAt s author (b + 2) link-size)
 
-module _ (s : List ℕ) (p : ℕ) (slot content : List ℕ) (h : Bytes s) (g : Bytes slot) (c : Bytes content) where
-  pub bytes-slot-edit : Bytes (slotEdit s p slot content)
+module _ (s : List ℕ) (author : Author) (p : ℕ) (slot content : List ℕ) (h : Bytes s) (g : Bytes slot) (c : Bytes content) where
+  pub bytes-slot-edit : Bytes (slotEdit s author p slot content)
   bytes-slot-edit =
-      let e : AllBytes (slotEdit s p slot content) = all-slot-edit p (record { all = h }) (record { all = g }) (record { all = c }) in
+      let e : AllBytes (slotEdit s author p slot content) = all-slot-edit author p (record { all = h }) (record { all = g }) (record { all = c }) in
       e .all
 
-  pub bytes-block-edit : Bytes (blockEdit s p (newBlock slot) content)
+  pub bytes-block-edit : Bytes (blockEdit s author p (newBlock slot) content)
   bytes-block-edit =
-      let e : AllBytes (blockEdit s p (newBlock slot) content) =
-      all-block-edit p (record { all = h }) (all-block (record { all = g })) (record { all = c }) in
+      let e : AllBytes (blockEdit s author p (newBlock slot) content) =
+      all-block-edit author p (record { all = h }) (all-block (record { all = g })) (record { all = c }) in
       e .all
 
 pub bytes-restored : (s : List ℕ) (c : Change) → Bytes s → Bytes (restored s c)

@@ -18,7 +18,7 @@ use Rattle.directory.specs.Rules.{Apart, Linked, Kept}
 use Rattle.answer.proofs.Tests.{in-left, in-right, in-append, in-snoc, same?, pairwise-snoc}
 use Rattle.directory.proofs.Blocks.{length-rows, slots-append}
 use Rattle.directory.proofs.Rules.{BlocksKept, chain-kept, kept-blocks, kept-opens}
-use Rattle.journal.specs.Trailers.{slot-size, link-size}
+use Rattle.journal.specs.Trailers.{slot-size, link-size, Author}
 use Rattle.journal.specs.Edits.{block-slots, block-size, freeSlot, freeSlots, newBlock, blockEdit}
 use Rattle.journal.proofs.Parts.{holds-left, holds-right, be-last}
 use Rattle.journal.proofs.Spacing.{blocks-two, blocks-distinct, slot-inside, header-clear}
@@ -186,19 +186,19 @@ module _ (s bs : List ℕ) (k : Kept s bs) (t slot : List ℕ) (grown : length s
 
 -- ---- The edit
 
-module _ (s bs : List ℕ) (k : Kept s bs) (slot content : List ℕ) (n : length slot ≡ slot-size)
+module _ (author : Author) (s bs : List ℕ) (k : Kept s bs) (slot content : List ℕ) (n : length slot ≡ slot-size)
     (few : length bs < most-blocks) (room : length (slotPlaces s bs) + block-slots ≤ most-slots) where
-  pub block-edit-writes : let t = blockEdit s (lastOf 4 bs) (newBlock slot) content in
-      Writes s bs t (bs ++ (length s ∷ [])) (length s + 6) slot content (length s + block-size) (lastOf 4 bs + 2) link-size
+  pub block-edit-writes : let t = blockEdit s author (lastOf 4 bs) (newBlock slot) content in
+      Writes author s bs t (bs ++ (length s ∷ [])) (length s + 6) slot content (length s + block-size) (lastOf 4 bs + 2) link-size
   unfolding blockEdit
   block-edit-writes =
       let b = lastOf 4 bs in
-      let t = blockEdit s b (newBlock slot) content in
+      let t = blockEdit s author b (newBlock slot) content in
       let last = linked-last s 4 bs (k .linked) in
       let inside : b + 2 + link-size ≤ length s = omega (arith, k .inside b last) in
-      let made : Changed s (b + 2) link-size (newBlock slot ++ content) t × Holds t (b + 2) (bytes 4 (length s)) =
+      let made : Changed s author (b + 2) link-size (newBlock slot ++ content) t × Holds t (b + 2) (bytes 4 (length s)) =
       rw (append-assoc (put s (b + 2) (bytes 4 (length s))) (newBlock slot) content)
-      (changed s (b + 2) link-size (bytes 4 (length s)) (newBlock slot ++ content) (length-bytes BigEndian 4 (length s)) inside (k .short) (omega arith)) in
+      (changed s author (b + 2) link-size (bytes 4 (length s)) (newBlock slot ++ content) (length-bytes BigEndian 4 (length s)) inside (k .short) (omega arith)) in
       let c = made .0 in
       let more : length (newBlock slot ++ content) ≡ block-size + length content =
       length-append (newBlock slot) content ∙ rw (length-block slot n) in
@@ -221,9 +221,10 @@ module _ (s bs : List ℕ) (k : Kept s bs) (slot content : List ℕ) (n : length
           | inl j ↦ omega (arith, count-same s bs k t slot grown (c .low) high link new few room d j, k .inside d j)
           | inr e ↦ rw (e, new .count) (omega arith)
         ];
-        back = λ all before m.
-            changed-undone s (b + 2) link-size (newBlock slot ++ content) t c inside (inr refl) all
+        ending = λ all is. c .ending all is (omega (arith, k .inside b last, k .after-header b last));
+        back = λ all is before m.
+            changed-undone s author (b + 2) link-size (newBlock slot ++ content) t c inside (inr refl) all is
             (omega (arith, k .inside b last, k .after-header b last)) before
             (ap (λ a. a .number) (kept-opens t (bs ++ (length s ∷ [])) m))
-            (next-known s t b (rw (kept-blocks t (bs ++ (length s ∷ [])) m) (in-left b bs (length s ∷ []) last)));
+            (next-known s author t b (rw (kept-blocks t (bs ++ (length s ∷ [])) m) (in-left b bs (length s ∷ []) last)));
       }

@@ -2,7 +2,7 @@
 -- Assumes nothing.
 use Prim.Native.Nat.{ℕ, zero, suc, _+_, _-_, _<_, _≤_}
 use mathlib.Core.Path.{_≡_, refl, sym, ap, _∙_}
-use mathlib.Core.Bool.{Bool, true, false, _&&_, _||_}
+use mathlib.Core.Bool.{Bool, true, false, _||_}
 use mathlib.Core.List.{List, [], _++_}
 use native.Mathlib.Nat.{suc-ne-zero}
 use native.Mathlib.Omega.{arith}
@@ -27,9 +27,10 @@ use Rattle.directory.specs.declared.Opened.the-variants.{Accepted, Refused as C
 use Rattle.directory.specs.Lookup.{find}
 use Rattle.journal.specs.Outcomes.{Outcome, granted, refused, openedTo, editedNumbers}
 use Rattle.journal.specs.Edits.{block-slots, block-size, newBlock, blockEdit, tagged, freeSlot, dataSlot, dataOffset, slotEdit, fitted, firstFree, addAt, addOf, replaceOf, removeOf}
-use Rattle.journal.specs.Undos.{restored, known, sound, undoTo, undoOf}
-use Rattle.journal.specs.Trailers.{trailer-size, trailerAt, carries}
-use Rattle.journal.specs.declared.change.Change.{Change}
+use Rattle.journal.specs.Undos.{undoTo, undoBy, undoOf}
+use Rattle.journal.specs.Trailers.{carriedBy, Author, named}
+use Rattle.journal.specs.declared.change.Ending.{Ending}
+use Rattle.journal.specs.declared.change.Ending.the-variants.{Nothing, Trailer}
 use Rattle.journal.specs.Buffers.{imageIn, addIn, replaceIn, removeIn, undoIn, Leaves}
 use Rattle.journal.specs.Steps.Changes.{OpensIn, Editable, slotIn, newIn}
 use Rattle.journal.specs.declared.Edited.{Edited}
@@ -77,9 +78,9 @@ inside l n o h = rw (imageIn, le-leb _ _ h)
 pub image-short : (l : List ℕ) (n : ℕ) → n ≤ length l → openOf (take n l) .number ≡ 0 → n ≤ most-bytes
 image-short l n fits opened = omega (arith, opens-kept (take n l) opened .short, length-take-le n l fits)
 
-pub undo-here : (l : List ℕ) (n : ℕ) → n ≤ length l → undoIn l n ≡ undoOf (take n l)
+pub undo-here : (l : List ℕ) (n desk : ℕ) → n ≤ length l → undoIn l n desk ≡ undoOf (take n l) desk
 unfolding undoIn
-undo-here l n fits = inside l n _ fits
+undo-here l n desk fits = inside l n _ fits
 
 -- ---- Opening it
 
@@ -107,35 +108,35 @@ pub edit-stops : (l : List ℕ) (n tag : ℕ) (rest : Outcome) (r : Refusal)
 edit-stops l n tag rest r stop =
     refuses l r (stop rest) (stop-positive (λ o. imageIn l n (tagged (take n l) tag o)) (λ o h. positive-image l n _ (positive-tagged (take n l) tag o h)) r stop)
 
-module _ (l : List ℕ) (n tag : ℕ) (m : Editable l n tag) (ref : ℕ) where
+module _ (l : List ℕ) (n desk tag : ℕ) (m : Editable l n tag) (ref : ℕ) where
   here : (rest : Outcome) → imageIn l n (tagged (take n l) tag rest) ≡ rest
   here rest = inside l n _ (m .fits) ∙ tagged-good (take n l) tag (m .opens) (m .good) rest
 
   module _ (p : ℕ) (there : find (take n l) tag ref ≡ hit p) where
-    pub add-present : (content : List ℕ) → Leaves (addIn l n tag ref content) l l (Refused (record { number = PRESENT; place = 0 }))
+    pub add-present : (content : List ℕ) → Leaves (addIn l n desk tag ref content) l l (Refused (record { number = PRESENT; place = 0 }))
     unfolding addIn addOf
     add-present content = refuses l _ (here _ ∙ rw there) (suc-ne-zero 17)
 
-    pub replace-there : (content after : List ℕ) (r : Edited) → Leaves (slotIn l n p tag ref content) l after r → Leaves (replaceIn l n tag ref content) l after r
+    pub replace-there : (content after : List ℕ) (r : Edited) → Leaves (slotIn l n p desk tag ref content) l after r → Leaves (replaceIn l n desk tag ref content) l after r
     unfolding replaceIn replaceOf
     replace-there content after r d =
-        leaves-same {p = slotIn l n p tag ref content} l after r
-        (here _ ∙ rw there (ap (λ k. fitted (length l) (slotEdit (take n l) p (dataSlot tag ref content k) content)) (length-take-le n l (m .fits)))) d
+        leaves-same {p = slotIn l n p desk tag ref content} l after r
+        (here _ ∙ rw there (ap (λ k. fitted (length l) (slotEdit (take n l) (named desk) p (dataSlot tag ref content k) content)) (length-take-le n l (m .fits)))) d
 
-    pub remove-there : (after : List ℕ) (r : Edited) → Leaves (slotIn l n p free-tag 0 []) l after r → Leaves (removeIn l n tag ref) l after r
+    pub remove-there : (after : List ℕ) (r : Edited) → Leaves (slotIn l n p desk free-tag 0 []) l after r → Leaves (removeIn l n desk tag ref) l after r
     unfolding removeIn removeOf freeSlot dataSlot dataOffset
-    remove-there after r d = leaves-same {p = slotIn l n p free-tag 0 []} l after r (here _ ∙ rw there) d
+    remove-there after r d = leaves-same {p = slotIn l n p desk free-tag 0 []} l after r (here _ ∙ rw there) d
 
   module _ (none : find (take n l) tag ref ≡ miss) where
-    pub add-absent : (content after : List ℕ) (r : Edited) → Leaves (newIn l n tag ref content) l after r → Leaves (addIn l n tag ref content) l after r
+    pub add-absent : (content after : List ℕ) (r : Edited) → Leaves (newIn l n desk tag ref content) l after r → Leaves (addIn l n desk tag ref content) l after r
     unfolding addIn addOf
-    add-absent content after r d = leaves-same {p = newIn l n tag ref content} l after r (here _ ∙ rw none) d
+    add-absent content after r d = leaves-same {p = newIn l n desk tag ref content} l after r (here _ ∙ rw none) d
 
-    pub replace-absent : (content : List ℕ) → Leaves (replaceIn l n tag ref content) l l (Refused (record { number = ABSENT; place = 0 }))
+    pub replace-absent : (content : List ℕ) → Leaves (replaceIn l n desk tag ref content) l l (Refused (record { number = ABSENT; place = 0 }))
     unfolding replaceIn replaceOf
     replace-absent content = refuses l _ (here _ ∙ rw none) (suc-ne-zero 10)
 
-    pub remove-absent : Leaves (removeIn l n tag ref) l l (Refused (record { number = ABSENT; place = 0 }))
+    pub remove-absent : Leaves (removeIn l n desk tag ref) l l (Refused (record { number = ABSENT; place = 0 }))
     unfolding removeIn removeOf
     remove-absent = refuses l _ (here _ ∙ rw none) (suc-ne-zero 10)
 
@@ -150,44 +151,41 @@ positive-fitted : (capacity : ℕ) (file : List ℕ) → Positive (fitted capaci
 unfolding fitted
 positive-fitted capacity file = positive-passing _ 0 (granted file) (positive-granted file)
 
-positive-at : (s : List ℕ) (capacity tag ref : ℕ) (content : List ℕ) (w : Hit) → Positive (addAt s capacity tag ref content w)
+positive-at : (s : List ℕ) (capacity : ℕ) (author : Author) (tag ref : ℕ) (content : List ℕ) (w : Hit) → Positive (addAt s capacity author tag ref content w)
 unfolding addAt
-positive-at s capacity tag ref content (hit p) = positive-fitted capacity _
-positive-at s capacity tag ref content miss =
-    let file = blockEdit s (lastOf 4 (blocksOf s)) (newBlock (dataSlot tag ref content (length s + block-size))) content in
+positive-at s capacity author tag ref content (hit p) = positive-fitted capacity _
+positive-at s capacity author tag ref content miss =
+    let file = blockEdit s author (lastOf 4 (blocksOf s)) (newBlock (dataSlot tag ref content (length s + block-size))) content in
     either (leb most-blocks (length (blocksOf s)) || ltb most-slots (length (slotsOf s) + block-slots)) (refused 6 0) (fitted capacity file)
     (positive-refused 6 0 (suc-ne-zero 5)) (positive-fitted capacity file)
 
-module _ (l : List ℕ) (n tag ref : ℕ) where
-  pub add-positive : (content : List ℕ) → Positive (addIn l n tag ref content)
+module _ (l : List ℕ) (n desk tag ref : ℕ) where
+  pub add-positive : (content : List ℕ) → Positive (addIn l n desk tag ref content)
   unfolding addIn addOf
   add-positive content = positive-image l n _ (positive-tagged (take n l) tag _ (go (find (take n l) tag ref)))
     where
-      go : (f : Hit) → Positive (elim f [ hit p ↦ refused PRESENT 0 | miss ↦ addAt (take n l) (length l) tag ref content (firstFree (take n l)) ])
+      go : (f : Hit) → Positive (elim f [ hit p ↦ refused PRESENT 0 | miss ↦ addAt (take n l) (length l) (named desk) tag ref content (firstFree (take n l)) ])
       go (hit p) = positive-refused 18 0 (suc-ne-zero 17)
-      go miss = positive-at (take n l) (length l) tag ref content (firstFree (take n l))
+      go miss = positive-at (take n l) (length l) (named desk) tag ref content (firstFree (take n l))
 
   -- an edit of an element that has to be there
   changed : (make : ℕ → List ℕ) (f : Hit) → Positive (elim f [ hit p ↦ fitted (length l) (make p) | miss ↦ refused ABSENT 0 ])
   changed make (hit p) = positive-fitted (length l) (make p)
   changed make miss = positive-refused 11 0 (suc-ne-zero 10)
 
-  pub replace-positive : (content : List ℕ) → Positive (replaceIn l n tag ref content)
+  pub replace-positive : (content : List ℕ) → Positive (replaceIn l n desk tag ref content)
   unfolding replaceIn replaceOf
   replace-positive content = positive-image l n _ (positive-tagged (take n l) tag _ (changed _ (find (take n l) tag ref)))
 
-  pub remove-positive : Positive (removeIn l n tag ref)
+  pub remove-positive : Positive (removeIn l n desk tag ref)
   unfolding removeIn removeOf
   remove-positive = positive-image l n _ (positive-tagged (take n l) tag _ (changed _ (find (take n l) tag ref)))
 
-positive-to : (s : List ℕ) (t : ℕ) (c : Change) → Positive (undoTo s t c)
-unfolding undoTo
-positive-to s t c =
-    either (known s t c && sound (c .previous) (restored s c)) (granted (restored s c)) (refused 21 t) (positive-granted (restored s c)) (positive-refused 21 t (suc-ne-zero 20))
+positive-by : (s : List ℕ) (desk : ℕ) (ending : Ending) → Positive (undoBy s desk ending)
+unfolding undoBy undoTo
+positive-by s desk Nothing = positive-refused 20 0 (suc-ne-zero 19)
+positive-by s desk (Trailer form) = positive-passing _ _ _ (positive-granted _)
 
-pub undo-positive : (l : List ℕ) (n : ℕ) → Positive (undoIn l n)
+pub undo-positive : (l : List ℕ) (n desk : ℕ) → Positive (undoIn l n desk)
 unfolding undoIn undoOf
-undo-positive l n =
-    let s = take n l in
-    let t = length s - trailer-size in
-    positive-image l n _ (positive-opened s _ (either (carries s) (undoTo s t (trailerAt s t)) (refused 20 0) (positive-to s t (trailerAt s t)) (positive-refused 20 0 (suc-ne-zero 19))))
+undo-positive l n desk = positive-image l n _ (positive-opened (take n l) _ (positive-by (take n l) desk (carriedBy (take n l))))

@@ -1,4 +1,5 @@
--- The claims about edits: what is read of the file after one, what of it is as before, that it opens, and its length. Assumes nothing.
+-- The claims about edits, whosever they are: what is read of the file after one, what of it is as before, that it opens, and its length. Assumes
+-- nothing.
 use Prim.Native.Nat.{ℕ, _<_}
 use mathlib.Core.Path.{_≡_, sym, _∙_}
 use mathlib.Core.Logic.{_↔_, inl, inr}
@@ -19,8 +20,9 @@ use Rattle.answer.proofs.Tests.{same?, zero?}
 use Rattle.directory.proofs.Rules.{opens-kept, kept-blocks, chain-kept}
 use Rattle.directory.proofs.Claims.{find-finds, find-found, find-absent}
 use Rattle.journal.specs.Outcomes.{granted}
+use Rattle.journal.specs.Trailers.{Author}
 use Rattle.journal.specs.Edits.{addOf, replaceOf, removeOf}
-use Rattle.journal.specs.History.{Edit, add, replace, remove, edit, Typed, edited}
+use Rattle.journal.specs.History.{Edit, add, replace, remove, TypedEdit, edited}
 use Rattle.journal.specs.EditRules.{ReadsBack, PairKept, tagOf, refOf, contentOf, OtherPair, TakesSlot, OneSlot, Alters, lengthAfter}
 use Rattle.journal.proofs.Parts.{part-same}
 use Rattle.journal.proofs.Spacing.{slot-inside}
@@ -29,7 +31,7 @@ use Rattle.journal.proofs.Edits.{Made, Fills, made, made-opens, added, 
 
 -- ---- Slots other than the one that was written
 
-module _ (s : List ℕ) (capacity : ℕ) (e : Edit) (t : List ℕ) (m : Made s capacity e t) where
+module _ (s : List ℕ) (capacity : ℕ) (author : Author) (e : Edit) (t : List ℕ) (m : Made s capacity author e t) where
   named-before : (tag ref p : ℕ) → (p ≡ m .slot → ⊥) → Named t tag ref p → Named s tag ref p
   unfolding slotsOf
   named-before tag ref p d n =
@@ -90,8 +92,8 @@ module _ (s : List ℕ) (capacity : ℕ) (e : Edit) (t : List ℕ) (m : Made s c
 
 -- ---- The claims
 
-reads-back : (s : List ℕ) (capacity : ℕ) (e : Edit) (t : List ℕ) → Fills s capacity e t → ReadsBack t (tagOf e) (refOf e) (contentOf e)
-reads-back s capacity e t f =
+reads-back : (s : List ℕ) (capacity : ℕ) (author : Author) (e : Edit) (t : List ℕ) → Fills s capacity author e t → ReadsBack t (tagOf e) (refOf e) (contentOf e)
+reads-back s capacity author e t f =
     let m = f .made in
     record {
       slot = m .slot;
@@ -102,39 +104,39 @@ reads-back s capacity e t f =
     }
 
 -- an element that was added is found, under that tag itself, and reads as given
-pub added-reads : (s : List ℕ) (capacity tag ref : ℕ) (content t : List ℕ) → tag < 65536 → ref < 65536
-    → addOf s capacity tag ref content ≡ granted t → ReadsBack t tag ref content
-added-reads s capacity tag ref content t b₁ b₂ e =
-    reads-back s capacity (add tag ref content) t (added s capacity tag ref content t b₁ b₂ e)
+pub added-reads : (s : List ℕ) (capacity : ℕ) (author : Author) (tag ref : ℕ) (content t : List ℕ) → tag < 65536 → ref < 65536
+    → addOf s capacity author tag ref content ≡ granted t → ReadsBack t tag ref content
+added-reads s capacity author tag ref content t b₁ b₂ e =
+    reads-back s capacity author (add tag ref content) t (added s capacity author tag ref content t b₁ b₂ e)
 
 -- and so is one that was replaced
-pub replaced-reads : (s : List ℕ) (capacity tag ref : ℕ) (content t : List ℕ) → tag < 65536 → ref < 65536
-    → replaceOf s capacity tag ref content ≡ granted t → ReadsBack t tag ref content
-replaced-reads s capacity tag ref content t b₁ b₂ e =
-    reads-back s capacity (replace tag ref content) t (replaced s capacity tag ref content t b₁ b₂ e)
+pub replaced-reads : (s : List ℕ) (capacity : ℕ) (author : Author) (tag ref : ℕ) (content t : List ℕ) → tag < 65536 → ref < 65536
+    → replaceOf s capacity author tag ref content ≡ granted t → ReadsBack t tag ref content
+replaced-reads s capacity author tag ref content t b₁ b₂ e =
+    reads-back s capacity author (replace tag ref content) t (replaced s capacity author tag ref content t b₁ b₂ e)
 
 -- an element that was removed is absent
-pub removed-absent : (s : List ℕ) (capacity tag ref : ℕ) (t : List ℕ) → removeOf s capacity tag ref ≡ granted t
+pub removed-absent : (s : List ℕ) (capacity : ℕ) (author : Author) (tag ref : ℕ) (t : List ℕ) → removeOf s capacity author tag ref ≡ granted t
     → findOf t tag ref ≡ refuse 1 ABSENT 0
-removed-absent s capacity tag ref t e =
-    let f = removed s capacity tag ref t e in
+removed-absent s capacity author tag ref t e =
+    let f = removed s capacity author tag ref t e in
     let m = f .made in
     find-absent t tag ref (made-opens m) .1 (λ p n. elim (same? p (m .slot)) [
       | inl q ↦ n .live (rw q (f .free))
-      | inr d ↦ d (m .only p (named-before s capacity (remove tag ref) t m tag ref p d n))
+      | inr d ↦ d (m .only p (named-before s capacity author (remove tag ref) t m tag ref p d n))
     ])
 
 -- every other pair is as before: absent, or in the same slot with the same tag, stored or not as it was, and with the same bytes
-pub others-kept : (s : List ℕ) (capacity : ℕ) (e : Edit) (t : List ℕ) → Typed (edit e) → edited capacity e s ≡ granted t
+pub others-kept : (s : List ℕ) (capacity : ℕ) (author : Author) (e : Edit) (t : List ℕ) → TypedEdit e → edited capacity author e s ≡ granted t
     → (tag ref : ℕ) → OtherPair e tag ref → PairKept s t tag ref
-others-kept s capacity e t y g = pair-kept s capacity e t (made s capacity e t y g)
+others-kept s capacity author e t y g = pair-kept s capacity author e t (made s capacity author e t y g)
 
 -- the edit writes one slot: which it is, what it holds, and that every other slot has its twelve bytes as before
-pub descriptors-stand : (s : List ℕ) (capacity : ℕ) (e : Edit) (t : List ℕ) → Typed (edit e) → edited capacity e s ≡ granted t
-    → (q : ℕ) × OneSlot s t e q
+pub descriptors-stand : (s : List ℕ) (capacity : ℕ) (author : Author) (e : Edit) (t : List ℕ) → TypedEdit e → edited capacity author e s ≡ granted t
+    → (q : ℕ) × OneSlot author s t e q
 unfolding slotsOf
-descriptors-stand s capacity e t y g =
-    let m = made s capacity e t y g in
+descriptors-stand s capacity author e t y g =
+    let m = made s capacity author e t y g in
     let k = opens-kept s (m .opened) in
     let places = kept-blocks t (m .blocks) (m .kept) in (
       m .slot,
@@ -150,16 +152,16 @@ descriptors-stand s capacity e t y g =
     )
 
 -- and alters the bytes of that slot, or of one next field, and no others of the file
-pub bytes-stand : (s : List ℕ) (capacity : ℕ) (e : Edit) (t : List ℕ) → Typed (edit e) → edited capacity e s ≡ granted t
+pub bytes-stand : (s : List ℕ) (capacity : ℕ) (author : Author) (e : Edit) (t : List ℕ) → TypedEdit e → edited capacity author e s ≡ granted t
     → (q : ℕ) × TakesSlot s e q × ((at : ℕ) × (count : ℕ) × Alters s t q at count)
-bytes-stand s capacity e t y g = let m = made s capacity e t y g in (m .slot, m .takes, m .alters)
+bytes-stand s capacity author e t y g = let m = made s capacity author e t y g in (m .slot, m .takes, m .alters)
 
 -- the file after a granted edit opens
-pub stays-accepted : (s : List ℕ) (capacity : ℕ) (e : Edit) (t : List ℕ) → Typed (edit e) → edited capacity e s ≡ granted t
+pub stays-accepted : (s : List ℕ) (capacity : ℕ) (author : Author) (e : Edit) (t : List ℕ) → TypedEdit e → edited capacity author e s ≡ granted t
     → openOf t .number ≡ 0
-stays-accepted s capacity e t y g = made-opens (made s capacity e t y g)
+stays-accepted s capacity author e t y g = made-opens (made s capacity author e t y g)
 
 -- its length is the paper's
-pub new-length : (s : List ℕ) (capacity : ℕ) (e : Edit) (t : List ℕ) → Typed (edit e) → edited capacity e s ≡ granted t
-    → length t ≡ lengthAfter s e
-new-length s capacity e t y g = made s capacity e t y g .size
+pub new-length : (s : List ℕ) (capacity : ℕ) (author : Author) (e : Edit) (t : List ℕ) → TypedEdit e → edited capacity author e s ≡ granted t
+    → length t ≡ lengthAfter author s e
+new-length s capacity author e t y g = made s capacity author e t y g .size

@@ -1,5 +1,5 @@
 -- The history claim: through every list of calls the buffer follows the history, answer by answer and byte by byte. Assumes nothing.
-use Prim.Native.Nat.{ℕ, _≤_}
+use Prim.Native.Nat.{ℕ, _-_, _≤_}
 use mathlib.Core.Path.{_≡_, refl, sym, ap, ap₂, _∙_}
 use mathlib.Core.List.{List, [], _∷_, _++_}
 use native.Mathlib.Omega.{arith}
@@ -11,21 +11,23 @@ use Rattle.answer.specs.Answer.{Answer}
 use Rattle.answer.specs.Lent.{laidOver}
 use Rattle.directory.specs.Opening.{openOf}
 use Rattle.journal.specs.Outcomes.{Outcome, granted, refused, outcomeAnswer}
+use Rattle.journal.specs.Trailers.{named}
 use Rattle.journal.specs.Edits.{addOf, replaceOf, removeOf}
-use Rattle.journal.specs.Undos.{undoOf}
+use Rattle.journal.specs.Undos.{deskFault, undoOf}
 use Rattle.journal.specs.Buffers.{imageIn, addIn, replaceIn, removeIn, undoIn}
-use Rattle.journal.specs.History.{Edit, add, replace, remove, Call, edit, undo, Typed, AllTyped, History, started, edited, below, decided, pushed, popped, historyAfter, historyAfterAll, historyAnswers, State, outcome, sizeAfter, left, stateAfter, stateAfterAll, answers, Agrees}
+use Rattle.journal.specs.History.{Edit, add, replace, remove, Call, edit, undo, IsDesk, TypedEdit, Typed, AllTyped, Entry, History, started, topOf, top, edited, below, decided, pushed, popped, historyAfter, historyAfterAll, historyAnswers, State, outcome, sizeAfter, left, stateAfter, stateAfterAll, answers, Agrees}
 use Rattle.journal.proofs.AllBytes.{bytes-append, bytes-restored}
 use Rattle.journal.proofs.Undos.{changeOf, undone, undone-length}
 use Rattle.journal.proofs.Edits.{undo-of-edit}
+use Rattle.journal.proofs.Outcomes.{granted-same, passing-granted}
 use Rattle.journal.proofs.Buffers.{laid-kept, inside}
 
 -- ---- What holds after every call
 
--- each file of the history undoes to the one under it
-abbrev pub Stacked : List ℕ → List (List ℕ) → Type 0
-Stacked top [] = Unit {0}
-Stacked top (file ∷ files) = (undoOf top ≡ granted file) × Stacked file files
+-- each file that an edit made undoes to the one under it, for that edit's desk, and for no other
+abbrev pub Stacked : List ℕ → List Entry → Type 0
+Stacked start [] = Unit {0}
+Stacked start (m ∷ ms) = ((desk : ℕ) → undoOf (m .file) desk ≡ below desk start (m ∷ ms)) × Stacked start ms
 
 -- the buffer keeps its length and is all bytes; the top file is its front, and opens if the start file does
 pub record Follows (StartOpens : Type 0) (capacity : ℕ) (m : State) (h : History) : Type 0 where
@@ -33,22 +35,23 @@ pub record Follows (StartOpens : Type 0) (capacity : ℕ) (m : State) (h : Histo
   pub bytes : Bytes (m .buffer)
   pub inside : m .size ≤ length (m .buffer)
   pub agrees : Agrees m h
-  pub opens : StartOpens → openOf (h .top) .number ≡ 0
-  pub stacked : Stacked (h .top) (h .under)
+  pub opens : StartOpens → openOf (top h) .number ≡ 0
+  pub stacked : Stacked (h .start) (h .made)
 
 pub left-refused : (m : State) (number place : ℕ) → left (refused number place) m ≡ m
 unfolding left sizeAfter
 left-refused m number place = rw (laid-kept number place (m .buffer))
 
 module _ (StartOpens : Type 0) (capacity : ℕ) (m : State) (h : History) (f : Follows StartOpens capacity m h) where
-  top-bytes : Bytes (h .top)
+  top-bytes : Bytes (top h)
   top-bytes = rw (f .agrees .bytes) at (bytes-take (m .size) (m .buffer) (f .bytes))
 
   -- a file laid over the front of the buffer
-  laid-keeps : (t : List ℕ) (files : List (List ℕ)) → Bytes t → length t ≤ capacity → openOf t .number ≡ 0 → Stacked t files
-      → Follows StartOpens capacity (left (granted t) m) (record { top = t; under = files })
+  laid-keeps : (g : History) → Bytes (top g) → length (top g) ≤ capacity → openOf (top g) .number ≡ 0 → Stacked (g .start) (g .made)
+      → Follows StartOpens capacity (left (granted (top g)) m) g
   unfolding left laidOver sizeAfter
-  laid-keeps t files all fits opens stacked =
+  laid-keeps g all fits opens stacked =
+      let t = top g in
       let rest = drop (length t) (m .buffer) in
       let n : length (t ++ rest) ≡ length (m .buffer) = length-append t rest ∙ rw length-drop (omega (arith, f .whole)) in
       record {
@@ -61,51 +64,64 @@ module _ (StartOpens : Type 0) (capacity : ℕ) (m : State) (h : History) (f : F
       }
 
   -- an edit
-  edit-keeps : (e : Edit) → Typed (edit e) → (o : Outcome) → edited capacity e (h .top) ≡ o → Follows StartOpens capacity (left o m) (pushed h o)
-  unfolding pushed
-  edit-keeps e y (granted t) q =
-      let u = undo-of-edit (h .top) capacity e t top-bytes y q in
-      laid-keeps t (h .top ∷ h .under) (u .bytes) (u .fits) (u .opens) (u .back, f .stacked)
-  edit-keeps e y (refused number place) q = rw (left-refused m number place) f
+  edit-keeps : (desk : ℕ) (e : Edit) → IsDesk desk → TypedEdit e → (o : Outcome) → edited capacity (named desk) e (top h) ≡ o
+      → Follows StartOpens capacity (left o m) (pushed h desk o)
+  unfolding pushed below
+  edit-keeps desk e is y (granted t) q =
+      let u = undo-of-edit (top h) capacity (named desk) e t top-bytes is y q in
+      laid-keeps (record { start = h .start; made = record { file = t; desk = desk } ∷ h .made }) (u .bytes) (u .fits) (u .opens) (u .back, f .stacked)
+  edit-keeps desk e is y (refused number place) q = rw (left-refused m number place) f
 
-  -- undo, with the files under the top one
-  back-keeps : (t : List ℕ) (files : List (List ℕ)) → undoOf (h .top) ≡ granted t → Stacked t files
-      → Follows StartOpens capacity (left (granted t) m) (record { top = t; under = files })
-  back-keeps t files q stacked =
-      let u = undone (h .top) t q in
-      laid-keeps t files (rw (u .is) at (bytes-restored (h .top) (changeOf (h .top)) top-bytes))
-      (omega (arith, undone-length (h .top) t u, f .inside, f .whole, f .agrees .size)) (u .opens) stacked
+  -- undo that is granted the top file of a history
+  back-keeps : (desk : ℕ) (g : History) → undoOf (top h) desk ≡ granted (top g) → Stacked (g .start) (g .made)
+      → Follows StartOpens capacity (left (granted (top g)) m) g
+  back-keeps desk g q stacked =
+      let u = undone (top h) desk (top g) q in
+      laid-keeps g (rw (u .is) at (bytes-restored (top h) (changeOf (u .form) (top h)) top-bytes))
+      (omega (arith, undone-length (top h) desk (top g) u, f .inside, f .whole, f .agrees .size)) (u .opens) stacked
 
-  undo-keeps : (files : List (List ℕ)) → Stacked (h .top) files → (o : Outcome) → undoOf (h .top) ≡ o
-      → (o ≡ below (h .top) files) × Follows StartOpens capacity (left o m) (popped h (below (h .top) files) files)
-  unfolding below popped
-  undo-keeps [] s (granted t) q = (sym q, rw q (back-keeps t [] q tt))
-  undo-keeps [] s (refused number place) q = (sym q, rw (q, left-refused m number place) f)
-  undo-keeps (file ∷ files) s o q =
-      let e : o ≡ granted file = sym q ∙ s .0 in
-      rw e (refl, back-keeps file files (s .0) (s .1))
+  -- undo, with what edits made
+  undo-keeps : (desk : ℕ) (made : List Entry) → h .made ≡ made → Stacked (h .start) made → (o : Outcome) → undoOf (top h) desk ≡ o → o ≡ below desk (h .start) made
+      → Follows StartOpens capacity (left o m) (popped h o made)
+  unfolding popped below
+  undo-keeps desk made e s (refused number place) q b = rw (left-refused m number place) f
+  undo-keeps desk [] e s (granted t) q b = back-keeps desk (started t) q tt
+  undo-keeps desk (n ∷ ns) e s (granted t) q b =
+      let is = granted-same _ t (passing-granted (deskFault (n .desk) desk) _ (granted (topOf (h .start) ns)) t (sym b) .1) in
+      rw (← is) (back-keeps desk (record { start = h .start; made = ns }) (q ∙ ap granted (sym is)) (s .1))
+
+  -- the history's answer is undo's of the top file
+  undo-stacked : (desk : ℕ) (made : List Entry) → Stacked (h .start) made → undoOf (topOf (h .start) made) desk ≡ below desk (h .start) made
+  unfolding below
+  undo-stacked desk [] s = refl
+  undo-stacked desk (n ∷ ns) s = s .0 desk
 
   -- the image in the buffer is the top file
-  here : (o : List ℕ → Outcome) → imageIn (m .buffer) (m .size) (o (take (m .size) (m .buffer))) ≡ o (h .top)
+  here : (o : List ℕ → Outcome) → imageIn (m .buffer) (m .size) (o (take (m .size) (m .buffer))) ≡ o (top h)
   here o = inside (m .buffer) (m .size) _ (f .inside) ∙ ap o (f .agrees .bytes)
 
-  edit-decided : (e : Edit) → outcome (edit e) m ≡ edited capacity e (h .top)
+  edit-decided : (desk : ℕ) (e : Edit) → outcome (edit desk e) m ≡ edited capacity (named desk) e (top h)
   unfolding outcome edited addIn replaceIn removeIn
-  edit-decided (add tag ref content) = rw (← f .whole) (here (λ s. addOf s (length (m .buffer)) tag ref content))
-  edit-decided (replace tag ref content) = rw (← f .whole) (here (λ s. replaceOf s (length (m .buffer)) tag ref content))
-  edit-decided (remove tag ref) = rw (← f .whole) (here (λ s. removeOf s (length (m .buffer)) tag ref))
+  edit-decided desk (add tag ref content) = rw (← f .whole) (here (λ s. addOf s (length (m .buffer)) (named desk) tag ref content))
+  edit-decided desk (replace tag ref content) = rw (← f .whole) (here (λ s. replaceOf s (length (m .buffer)) (named desk) tag ref content))
+  edit-decided desk (remove tag ref) = rw (← f .whole) (here (λ s. removeOf s (length (m .buffer)) (named desk) tag ref))
 
-  undo-decided : outcome undo m ≡ undoOf (h .top)
+  undo-decided : (desk : ℕ) → outcome (undo desk) m ≡ below desk (h .start) (h .made)
   unfolding outcome undoIn
-  undo-decided = here undoOf
+  undo-decided desk = here (λ s. undoOf s desk) ∙ undo-stacked desk (h .made) (f .stacked)
+
+  pub undo-step : (desk : ℕ) → (outcome (undo desk) m ≡ decided capacity (undo desk) h)
+      × Follows StartOpens capacity (stateAfter (undo desk) m) (historyAfter capacity (undo desk) h)
+  unfolding decided stateAfter historyAfter
+  undo-step desk =
+      rw (undo-decided desk) (refl, undo-keeps desk (h .made) refl (f .stacked) _ (undo-stacked desk (h .made) (f .stacked)) refl)
 
   -- each call is decided as the history decides it, and keeps all this
   pub step-keeps : (c : Call) → Typed c
       → (outcome c m ≡ decided capacity c h) × Follows StartOpens capacity (stateAfter c m) (historyAfter capacity c h)
   unfolding decided stateAfter historyAfter
-  step-keeps (edit e) y = rw (edit-decided e) (refl, edit-keeps e y (edited capacity e (h .top)) refl)
-  step-keeps undo y =
-      rw undo-decided (undo-keeps (h .under) (f .stacked) (undoOf (h .top)) refl)
+  step-keeps (edit desk e) y = rw (edit-decided desk e) (refl, edit-keeps desk e (y .0) (y .1) (edited capacity (named desk) e (top h)) refl)
+  step-keeps (undo desk) y = undo-step desk
 
 -- ---- Through every list of calls
 
@@ -118,7 +134,7 @@ all-keep StartOpens capacity m h f (c ∷ cs) y =
     let r = all-keep StartOpens capacity (stateAfter c m) (historyAfter capacity c h) (k .1) cs (y .1) in
     (ap₂ {C = List Answer} (λ x xs. x ∷ xs) (ap outcomeAnswer (k .0)) (r .0), r .1)
 
-at-start : (buffer : List ℕ) (n : ℕ) → Bytes buffer → n ≤ length buffer
+pub at-start : (buffer : List ℕ) (n : ℕ) → Bytes buffer → n ≤ length buffer
     → Follows (openOf (take n buffer) .number ≡ 0) (length buffer) (record { buffer = buffer; size = n }) (started (take n buffer))
 at-start buffer n bytes inside =
     record {
@@ -137,8 +153,8 @@ pub reached : (buffer : List ℕ) (n : ℕ) → Bytes buffer → n ≤ length bu
 reached buffer n bytes inside calls typed =
     all-keep _ (length buffer) (record { buffer = buffer; size = n }) (started (take n buffer)) (at-start buffer n bytes inside) calls typed .1
 
--- document 01's demand 3: every answer is the history's, and after the last call length and bytes are the top file's. It holds of files that
--- do not open too: of those every call is refused
+-- document 01's demand 3, with document 02 (viii): every answer is the history's, which is fed the desks, and after the last call length and
+-- bytes are the top file's. It holds of files that do not open too: of those every call is refused
 pub history : (buffer : List ℕ) (n : ℕ) → Bytes buffer → n ≤ length buffer → (calls : List Call) → AllTyped calls
     → (answers calls (record { buffer = buffer; size = n }) ≡ historyAnswers (length buffer) calls (started (take n buffer)))
     × Agrees (stateAfterAll calls (record { buffer = buffer; size = n })) (historyAfterAll (length buffer) calls (started (take n buffer)))

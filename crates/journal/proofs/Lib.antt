@@ -14,9 +14,12 @@ pub mod Edits
 pub mod EditClaims
 pub mod Buffers
 pub mod Rules
+pub mod UndoRules
 pub mod RuleClaims
 pub mod History
 pub mod HistoryClaims
+pub mod Desks
+pub mod DeskClaims
 pub mod Cases
 pub mod Laid
 pub mod Adding

@@ -70,7 +70,7 @@ module _ (n place : ℕ) (o : Outcome) where
   unfolding passing
   passing-stops h = elim (zero? n) [ inl z ↦ absurd (h z) | inr m ↦ rw (m .1) ]
 
-  passing-granted : (t : List ℕ) → passing n place o ≡ granted t → (n ≡ 0) × (o ≡ granted t)
+  pub passing-granted : (t : List ℕ) → passing n place o ≡ granted t → (n ≡ 0) × (o ≡ granted t)
   passing-granted t e =
       elim (same? n 0) [
         | inl z ↦ (z, sym (passing-goes z) ∙ e)

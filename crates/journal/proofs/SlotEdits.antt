@@ -12,7 +12,7 @@ use Rattle.directory.specs.Slots.{slotPlaces, slotsOf}
 use Rattle.answer.specs.Search.{In}
 use Rattle.directory.specs.Rules.{Linked, Kept}
 use Rattle.directory.proofs.Rules.{chain-kept, kept-blocks, kept-opens}
-use Rattle.journal.specs.Trailers.{slot-size}
+use Rattle.journal.specs.Trailers.{slot-size, Author}
 use Rattle.journal.specs.Edits.{slotEdit}
 use Rattle.journal.proofs.Spacing.{slot-block, slot-inside, slots-two, header-clear}
 use Rattle.journal.proofs.Frames.{slot-same, places-same, blocks-same, Framed}
@@ -77,13 +77,13 @@ module _ (s bs : List ℕ) (k : Kept s bs) (q : ℕ) (here : In q (slotPlaces s 
 
 -- ---- The edit
 
-module _ (s bs : List ℕ) (k : Kept s bs) (q : ℕ) (here : In q (slotPlaces s bs)) (slot content : List ℕ) (n : length slot ≡ slot-size) where
-  pub slot-edit-writes : Writes s bs (slotEdit s q slot content) bs q slot content (length s) q slot-size
+module _ (author : Author) (s bs : List ℕ) (k : Kept s bs) (q : ℕ) (here : In q (slotPlaces s bs)) (slot content : List ℕ) (n : length slot ≡ slot-size) where
+  pub slot-edit-writes : Writes author s bs (slotEdit s author q slot content) bs q slot content (length s) q slot-size
   unfolding slotsOf slotEdit
   slot-edit-writes =
-      let t = slotEdit s q slot content in
+      let t = slotEdit s author q slot content in
       let r = slot-inside s bs (chain-kept s bs k .blocks) q here in
-      let made = changed s q slot-size slot content n (r .1) (k .short) (omega arith) in
+      let made = changed s author q slot-size slot content n (r .1) (k .short) (omega arith) in
       let c = made .0 in
       let grown : length s ≤ length t = omega (arith, c .size) in
       let same : slotPlaces t bs ≡ slotPlaces s bs = places-are s bs k q here t grown (c .low) (c .high) in
@@ -98,7 +98,8 @@ module _ (s bs : List ℕ) (k : Kept s bs) (q : ℕ) (here : In q (slotPlaces s 
         high = c .high;
         after-header = k .headed .0;
         past = λ b i. omega (arith, count-same s bs k q here t grown (c .low) (c .high) b i, k .inside b i);
-        back = λ all before m.
-            changed-undone s q slot-size content t c (r .1) (inl refl) all (omega arith) before (ap (λ a. a .number) (kept-opens t bs m))
-            (slot-known s t q (rw (kept-blocks t bs m, same) here));
+        ending = λ all is. c .ending all is (omega arith);
+        back = λ all is before m.
+            changed-undone s author q slot-size content t c (r .1) (inl refl) all is (omega arith) before (ap (λ a. a .number) (kept-opens t bs m))
+            (slot-known s author t q (rw (kept-blocks t bs m, same) here));
       }

@@ -5,27 +5,32 @@ use mathlib.Core.Path.{_≡_, refl, sym, ap, _∙_}
 use mathlib.Core.Logic.{inl, inr}
 use mathlib.Core.List.{List, _++_}
 use mathlib.Core.Bool.{Bool, true, false, _&&_, _||_}
+use native.Mathlib.Nat.{suc-ne-zero}
 use native.Mathlib.Omega.{arith}
 use lib.ListN.{length, take, drop}
 use lib.Seq.{length-take-le, take-take}
 use lib.Dec.{leb, eqb}
-use borrow.Author.Tests.{leb-true, le-leb, lt-leb, eqb-true, ne-eqb}
+use borrow.Author.Tests.{leb-true, le-leb, lt-leb, eqb-true, eq-eqb, ne-eqb}
 use Rattle.wire.specs.Numbers.{put}
 use Rattle.wire.proofs.Numbers.{length-put}
-use Rattle.answer.specs.Refusals.{NO-EDIT, BAD-TRAILER}
-use Rattle.answer.specs.Search.{any}
-use Rattle.answer.proofs.Tests.{and-split, or-split, picks}
+use Rattle.answer.specs.Refusals.{BAD-TRAILER}
+use Rattle.answer.specs.Search.{any, must}
+use Rattle.answer.proofs.Tests.{and-split, or-split}
+use Rattle.answer.proofs.Search.{must-holds, must-fails, passed}
 use Rattle.directory.specs.Blocks.{blocksOf}
 use Rattle.directory.specs.Slots.{slotsOf}
 use Rattle.directory.specs.Rooms.{isLink}
 use Rattle.directory.specs.Opening.{openOf}
 use Rattle.journal.specs.Outcomes.{granted, refused}
-use Rattle.journal.specs.Trailers.{trailer-size, slot-size, link-size, least-trailed, trailerAt, carries, previousOf, oldBytes}
-use Rattle.journal.specs.Undos.{restored, placeKnown, known, opens, sound, undoTo, undoOf}
+use Rattle.journal.specs.Trailers.{formSize, slot-size, link-size, trailerAt, carriedBy, previousOf, oldBytes}
+use Rattle.journal.specs.Undos.{restored, placeKnown, known, opens, sound, deskFault, forDesk, restoredFault, undoTo, undoBy, undoOf}
 use Rattle.journal.specs.declared.change.Change.{Change}
+use Rattle.journal.specs.declared.change.Form.{Form}
+use Rattle.journal.specs.declared.change.Ending.{Ending}
+use Rattle.journal.specs.declared.change.Ending.the-variants.{Nothing, Trailer}
 use Rattle.journal.proofs.Parts.{put-inside}
-use Rattle.journal.proofs.Outcomes.{refused-granted, granted-same, opened-granted, opens-true}
-use Rattle.journal.proofs.Trailers.{Sized, length-old, carried-long}
+use Rattle.journal.proofs.Outcomes.{refused-granted, granted-same, passing-goes, passing-stops, passing-granted, opened-granted, opens-true}
+use Rattle.journal.proofs.Trailers.{Sized, length-old, ending-least}
 
 -- ---- The rules by the present image
 
@@ -94,43 +99,58 @@ put-restored l n t c fits low k =
     put-inside l (c .before) (c .place) (oldBytes c) (omega (arith, k .shorter)) (omega (arith, length-old c (k .size), k .inside))
     ∙ ap (λ x. put x (c .place) (oldBytes c) ++ drop (c .before) l) (sym (take-take (c .before) n l (omega (arith, k .shorter))))
 
+-- ---- For a desk
+
+module _ (own desk place : ℕ) (file : List ℕ) where
+  pub for-own : desk ≡ own → forDesk own desk place file ≡ granted file
+  unfolding deskFault
+  for-own e = passing-goes (deskFault own desk) place _ (must-holds _ 30 0 (eq-eqb own desk (sym e)))
+
+  pub for-other : (desk ≡ own → ⊥) → forDesk own desk place file ≡ refused 30 place
+  unfolding deskFault
+  for-other z =
+      let n = must-fails _ 30 0 (ne-eqb own desk (λ e. z (sym e))) in
+      passing-stops (deskFault own desk) place _ (λ q. suc-ne-zero 29 (sym n ∙ q)) ∙ ap (λ k. refused k place) n
+
 -- ---- A granted undo
 
 -- the change that the trailer of t records
-abbrev pub changeOf : List ℕ → Change
-changeOf t = trailerAt t (length t - trailer-size)
+abbrev pub changeOf : Form → List ℕ → Change
+changeOf form t = trailerAt form t (length t - formSize form)
 
--- undo of t is granted s
-pub record Undone (t s : List ℕ) : Type 0 where
-  pub long : least-trailed ≤ length t
-  pub known : Known (length t - trailer-size) (changeOf t)
-  pub is : restored t (changeOf t) ≡ s
+-- undo of t for a desk is granted s
+pub record Undone (t : List ℕ) (desk : ℕ) (s : List ℕ) : Type 0 where
+  pub form : Form
+  pub ending : carriedBy t ≡ Trailer form
+  pub known : Known (length t - formSize form) (changeOf form t)
+  pub is : restored t (changeOf form t) ≡ s
   pub opens : openOf s .number ≡ 0
+  pub own : changeOf form t .desk ≡ desk
 
-pub undone : (t s : List ℕ) → undoOf t ≡ granted s → Undone t s
-unfolding undoOf undoTo sound
-undone t s e =
-    let a = length t - trailer-size in
-    let c = changeOf t in
-    let old = restored t c in
-    let h = opened-granted t (elim (carries t) [ false ↦ refused NO-EDIT 0 | true ↦ undoTo t a c ]) s e in
-    elim (picks (carries t) (undoTo t a c) (refused NO-EDIT 0) (granted s) (h .1)) [
-      | inr r ↦ absurd (refused-granted _ _ s (r .1))
-      | inl l ↦ elim (picks (known t a c && sound (c .previous) old) (granted old) (refused BAD-TRAILER a) (granted s) (l .1)) [
-        | inr r ↦ absurd (refused-granted _ _ s (r .1))
-        | inl m ↦
-            let k = and-split (known t a c) (sound (c .previous) old) (m .0) in
-            let same = granted-same old s (m .1) in
-            record {
-              long = carried-long t (l .0);
-              known = known-is t a c (k .0);
-              is = same;
-              opens = opens-true s .0 (rw same at (and-split (eqb (c .previous) (previousOf old)) (opens old) (k .1) .1));
-            }
-      ]
-    ]
+pub undone : (t : List ℕ) (desk : ℕ) (s : List ℕ) → undoOf t desk ≡ granted s → Undone t desk s
+unfolding undoOf undoBy undoTo restoredFault sound deskFault
+undone t desk s e = go (carriedBy t) refl (opened-granted t (undoBy t desk (carriedBy t)) s e .1)
+  where
+    go : (ending : Ending) → carriedBy t ≡ ending → undoBy t desk ending ≡ granted s → Undone t desk s
+    go Nothing h g = absurd (refused-granted _ _ s g)
+    go (Trailer form) h g =
+        let a = length t - formSize form in
+        let c = changeOf form t in
+        let old = restored t c in
+        let k = passing-granted (must (known t a c) BAD-TRAILER (restoredFault form c desk old)) a (granted old) s g in
+        let k₁ = passed (known t a c) 20 (restoredFault form c desk old) (k .0) in
+        let k₂ = passed (sound form (c .previous) old) 20 (deskFault (c .desk) desk) (k₁ .1) in
+        let same = granted-same old s (k .1) in
+        record {
+          form = form;
+          ending = h;
+          known = known-is t a c (k₁ .0);
+          is = same;
+          opens = opens-true s .0 (rw same at (and-split (eqb (c .previous) (previousOf form old)) (opens old) (k₂ .0) .1));
+          own = eqb-true (c .desk) desk (passed (eqb (c .desk) desk) 29 0 (k₂ .1) .0);
+        }
 
-pub undone-length : (t s : List ℕ) → Undone t s → length s + trailer-size ≤ length t
-undone-length t s u =
-    let n = sym (ap length (u .is)) ∙ length-restored t _ (changeOf t) (u .known) (omega arith) in
-    omega (arith, n, u .known .shorter, u .long)
+pub undone-length : (t : List ℕ) (desk : ℕ) (s : List ℕ) (u : Undone t desk s) → length s + formSize (u .form) ≤ length t
+undone-length t desk s u =
+    let n = sym (ap length (u .is)) ∙ length-restored t _ (changeOf (u .form) t) (u .known) (omega arith) in
+    omega (arith, n, u .known .shorter, ending-least (u .form) t (u .ending))

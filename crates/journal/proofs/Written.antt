@@ -1,5 +1,5 @@
 -- A slot as an edit writes it, as it is read: free, or filled with an element whose data stands past all blocks. Assumes nothing.
-use Prim.Native.Nat.{ℕ, _+_, _^_, _≤_, _<_}
+use Prim.Native.Nat.{ℕ, _+_, _-_, _^_, _≤_, _<_}
 use mathlib.Core.Path.{_≡_, refl, sym, _∙_}
 use mathlib.Core.Logic.{_⊎_, inl, inr}
 use mathlib.Core.List.{List, [], _∷_, _++_}
@@ -16,9 +16,10 @@ use Rattle.answer.specs.Search.{In}
 use Rattle.directory.specs.Rules.{Live, IsStored, ElementKept, Clashing, Kept}
 use Rattle.answer.proofs.Tests.{same?}
 use Rattle.directory.proofs.Slots.{size-stored}
-use Rattle.journal.specs.Outcomes.{granted}
-use Rattle.journal.specs.Trailers.{trailer-size}
-use Rattle.journal.specs.Undos.{undoOf}
+use Rattle.journal.specs.Trailers.{carriedBy, Author, formOf, deskOf, trailerSize}
+use Rattle.journal.specs.Undos.{forDesk, undoOf}
+use Rattle.journal.specs.History.{IsAuthor}
+use Rattle.journal.specs.declared.change.Ending.the-variants.{Trailer}
 use Rattle.journal.specs.EditRules.{SlotIs}
 use Rattle.journal.specs.Edits.{slotBytes, freeSlot, dataOffset, dataSlot}
 use Rattle.journal.proofs.Parts.{holds-left, be-last, part-held}
@@ -117,27 +118,30 @@ module _ (t : List ℕ) (q tag ref : ℕ) (content : List ℕ) (at : ℕ) (f : F
 
 -- ---- A file with such a slot
 
--- t, whose blocks stand at cs, is s with a slot written at q and content at a place past all blocks; undo makes s of it if it opens
-pub record Writes (s bs t cs : List ℕ) (q : ℕ) (slot content : List ℕ) (at place count : ℕ) : Type 0 where
+-- t, whose blocks stand at cs, is s with a slot written at q and content at a place past all blocks; undo makes s of it for the author's desk if
+-- it opens
+pub record Writes (author : Author) (s bs t cs : List ℕ) (q : ℕ) (slot content : List ℕ) (at place count : ℕ) : Type 0 where
   pub framed : Framed s bs t cs q
   pub here : In q (slotPlaces t cs)
   pub slot-held : Holds t q slot
   pub content-held : Holds t at content
-  pub size : length t ≡ at + length content + trailer-size
+  pub size : length t ≡ at + length content + trailerSize author
   pub after-header : 4 ≤ at
   pub past : (b : ℕ) → In b cs → blockEnd t b ≤ at
   pub besides : (p : ℕ) → In p (slotPlaces t cs) → (p ≡ q → ⊥) → In p (slotPlaces s bs) ⊎ Holds t p freeSlot
   pub low : Same s t 0 place
   pub high : Same s t (place + count) (length s)
-  pub back : Bytes s → openOf s .number ≡ 0 → Kept t cs → undoOf t ≡ granted s
+  pub ending : Bytes s → IsAuthor author → carriedBy t ≡ Trailer (formOf author)
+  pub back : Bytes s → IsAuthor author → openOf s .number ≡ 0 → Kept t cs → (desk : ℕ)
+      → undoOf t desk ≡ forDesk (deskOf author) desk (length t - trailerSize author) s
 
 -- with a free slot it keeps the rules
-pub freed-kept : (s bs t cs : List ℕ) (q at place count : ℕ) → Kept s bs → Writes s bs t cs q freeSlot [] at place count → length t ≤ most-bytes → Kept t cs
-freed-kept s bs t cs q at place count k w short =
+pub freed-kept : (author : Author) (s bs t cs : List ℕ) (q at place count : ℕ) → Kept s bs → Writes author s bs t cs q freeSlot [] at place count → length t ≤ most-bytes → Kept t cs
+freed-kept author s bs t cs q at place count k w short =
     let free = free-reads t q (w .slot-held) .tag-is in
     framed-kept s bs t cs q k (w .framed) short (λ l. absurd (l free)) (λ l. absurd (l free))
 
-module _ (s bs t cs : List ℕ) (q tag ref : ℕ) (content : List ℕ) (at place count : ℕ) (w : Writes s bs t cs q (dataSlot tag ref content at) content at place count)
+module _ (author : Author) (s bs t cs : List ℕ) (q tag ref : ℕ) (content : List ℕ) (at place count : ℕ) (w : Writes author s bs t cs q (dataSlot tag ref content at) content at place count)
     (short : length t ≤ most-bytes) (taken : Taken tag) (b₁ : tag < 65536) (b₂ : ref < 65536) where
   pub writes-filled : Filled t q tag ref content at
   writes-filled = filled t q tag ref content at taken b₁ b₂ (omega (arith, w .size)) (w .slot-held) (w .content-held) (omega (arith, w .size))

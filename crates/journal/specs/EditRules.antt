@@ -1,4 +1,5 @@
--- What an edit leaves in the file after it, as a reader finds it, after document 01, "Edits and the trailer". Assumes nothing.
+-- What an edit leaves in the file after it, as a reader finds it, after document 01, "Edits and the trailer". Whose the edit is shows in the size
+-- of the trailer alone: 36 bytes where it names a desk. Assumes nothing.
 use Prim.Native.Nat.{ℕ, _+_, _<_, _≤_}
 use mathlib.Core.Path.{_≡_}
 use mathlib.Core.Logic.{_↔_, _⊎_}
@@ -13,7 +14,7 @@ use Rattle.directory.specs.Slots.{tagAt, refAt, offsetAt, lengthAt, baseTag, co
 use Rattle.directory.specs.Lookup.{findOf}
 use Rattle.directory.specs.Rules.{Live, Unstored, IsStored}
 use Rattle.directory.specs.Named.{Named}
-use Rattle.journal.specs.Trailers.{trailer-size}
+use Rattle.journal.specs.Trailers.{Author, trailerSize}
 use Rattle.journal.specs.Edits.{block-size, firstFree}
 use Rattle.journal.specs.Rules.{NoneFree}
 use Rattle.journal.specs.History.{Edit, add, replace, remove}
@@ -77,22 +78,22 @@ TakesSlot s (replace tag ref content) q = Named s tag ref q
 TakesSlot s (remove tag ref) q = Named s tag ref q
 
 -- the pair, the content's length, and where it stands: right before the trailer, and at 0 where it is empty
-abbrev pub HoldsPair : List ℕ → ℕ → ℕ → ℕ → List ℕ → Type 0
-HoldsPair t q tag ref content =
+abbrev pub HoldsPair : Author → List ℕ → ℕ → ℕ → ℕ → List ℕ → Type 0
+HoldsPair author t q tag ref content =
     (offset : ℕ) × SlotIs t q tag ref offset (length content)
-    × (length content ≡ 0 → offset ≡ 0) × (0 < length content → offset + length content + 32 ≡ length t)
+    × (length content ≡ 0 → offset ≡ 0) × (0 < length content → offset + length content + trailerSize author ≡ length t)
 
 -- what the slot holds after the edit
-abbrev pub HoldsEdit : List ℕ → Edit → ℕ → Type 0
-HoldsEdit t (add tag ref content) q = HoldsPair t q tag ref content
-HoldsEdit t (replace tag ref content) q = HoldsPair t q tag ref content
-HoldsEdit t (remove tag ref) q = SlotIs t q 1 0 0 0
+abbrev pub HoldsEdit : Author → List ℕ → Edit → ℕ → Type 0
+HoldsEdit author t (add tag ref content) q = HoldsPair author t q tag ref content
+HoldsEdit author t (replace tag ref content) q = HoldsPair author t q tag ref content
+HoldsEdit author t (remove tag ref) q = SlotIs t q 1 0 0 0
 
 -- one slot is written; every other slot of s, live or free, has its twelve bytes as before, at its place; what t has besides is free
-pub record OneSlot (s t : List ℕ) (e : Edit) (q : ℕ) : Type 0 where
+pub record OneSlot (author : Author) (s t : List ℕ) (e : Edit) (q : ℕ) : Type 0 where
   pub takes : TakesSlot s e q
   pub there : In q (slotsOf t)
-  pub holds : HoldsEdit t e q
+  pub holds : HoldsEdit author t e q
   pub others : (p : ℕ) → In p (slotsOf s) → (p ≡ q → ⊥) → In p (slotsOf t) × (part t p 12 ≡ part s p 12)
   pub besides : (p : ℕ) → In p (slotsOf t) → (p ≡ q → ⊥) → In p (slotsOf s) ⊎ SlotIs t p 1 0 0 0
 
@@ -110,7 +111,7 @@ addedAt s (hit p) = length s
 addedAt s miss = length s + block-size
 
 -- the length of the file after an edit
-unfoldable pub lengthAfter : List ℕ → Edit → ℕ
-lengthAfter s (add tag ref content) = addedAt s (firstFree s) + length content + trailer-size
-lengthAfter s (replace tag ref content) = length s + length content + trailer-size
-lengthAfter s (remove tag ref) = length s + trailer-size
+unfoldable pub lengthAfter : Author → List ℕ → Edit → ℕ
+lengthAfter author s (add tag ref content) = addedAt s (firstFree s) + length content + trailerSize author
+lengthAfter author s (replace tag ref content) = length s + length content + trailerSize author
+lengthAfter author s (remove tag ref) = length s + trailerSize author

@@ -1,4 +1,5 @@
--- What adding, replacing and removing make of a whole file, after document 01, "Edits and the trailer". Assumes nothing.
+-- What adding, replacing and removing make of a whole file, after document 01, "Edits and the trailer", and document 02 (viii). Assumes
+-- nothing.
 use Prim.Native.Nat.{ℕ, zero, suc, _+_}
 use mathlib.Core.List.{List, [], _∷_, _++_}
 use mathlib.Core.Bool.{Bool, true, false, not, _&&_, _||_}
@@ -13,7 +14,7 @@ use Rattle.directory.specs.Slots.{liveAt, slotsOf}
 use Rattle.directory.specs.Lookup.{find}
 use Rattle.directory.specs.Links.{lastOf}
 use Rattle.journal.specs.Outcomes.{Outcome, granted, refused, passing, openedTo}
-use Rattle.journal.specs.Trailers.{slot-size, link-size, changeAt, trailerBytes}
+use Rattle.journal.specs.Trailers.{slot-size, link-size, Author, trailerOf}
 
 -- ---- Bytes that edits write
 
@@ -46,16 +47,16 @@ dataOffset (x ∷ xs) at = at
 unfoldable pub dataSlot : ℕ → ℕ → List ℕ → ℕ → List ℕ
 dataSlot tag ref content at = slotBytes tag ref (dataOffset content at) (length content)
 
--- ---- The file after an edit
+-- ---- The file after an edit, with the author's trailer
 
 -- the slot at p changed, the data appended, then the trailer with the slot's old bytes
-unfoldable pub slotEdit : List ℕ → ℕ → List ℕ → List ℕ → List ℕ
-slotEdit s p slot content = put s p slot ++ content ++ trailerBytes (changeAt s p slot-size)
+unfoldable pub slotEdit : List ℕ → Author → ℕ → List ℕ → List ℕ → List ℕ
+slotEdit s author p slot content = put s p slot ++ content ++ trailerOf s author p slot-size
 
 -- a block appended and linked from the block at b, then the data, then the trailer with the next field's old bytes
-unfoldable pub blockEdit : List ℕ → ℕ → List ℕ → List ℕ → List ℕ
-blockEdit s b block content =
-    put s (b + 2) (bytes 4 (length s)) ++ block ++ content ++ trailerBytes (changeAt s (b + 2) link-size)
+unfoldable pub blockEdit : List ℕ → Author → ℕ → List ℕ → List ℕ → List ℕ
+blockEdit s author b block content =
+    put s (b + 2) (bytes 4 (length s)) ++ block ++ content ++ trailerOf s author (b + 2) link-size
 
 -- ---- What an edit comes to
 
@@ -79,32 +80,32 @@ abbrev pub firstFree : List ℕ → Hit
 firstFree s = first (λ p. not (liveAt s p)) (slotsOf s)
 
 -- in it, or in a new block after the last one
-unfoldable pub addAt : List ℕ → ℕ → ℕ → ℕ → List ℕ → Hit → Outcome
-addAt s capacity tag ref content (hit p) = fitted capacity (slotEdit s p (dataSlot tag ref content (length s)) content)
-addAt s capacity tag ref content miss =
+unfoldable pub addAt : List ℕ → ℕ → Author → ℕ → ℕ → List ℕ → Hit → Outcome
+addAt s capacity author tag ref content (hit p) = fitted capacity (slotEdit s author p (dataSlot tag ref content (length s)) content)
+addAt s capacity author tag ref content miss =
     elim (leb most-blocks (length (blocksOf s)) || ltb most-slots (length (slotsOf s) + block-slots)) [
       | true ↦ refused DIR-BIG 0
       | false ↦
-          fitted capacity (blockEdit s (lastOf 4 (blocksOf s)) (newBlock (dataSlot tag ref content (length s + block-size))) content)
+          fitted capacity (blockEdit s author (lastOf 4 (blocksOf s)) (newBlock (dataSlot tag ref content (length s + block-size))) content)
     ]
 
-unfoldable pub addOf : List ℕ → ℕ → ℕ → ℕ → List ℕ → Outcome
-addOf s capacity tag ref content =
+unfoldable pub addOf : List ℕ → ℕ → Author → ℕ → ℕ → List ℕ → Outcome
+addOf s capacity author tag ref content =
     tagged s tag
     (elim (find s tag ref) [
       | hit p ↦ refused PRESENT 0
-      | miss ↦ addAt s capacity tag ref content (firstFree s)
+      | miss ↦ addAt s capacity author tag ref content (firstFree s)
     ])
 
-unfoldable pub replaceOf : List ℕ → ℕ → ℕ → ℕ → List ℕ → Outcome
-replaceOf s capacity tag ref content =
+unfoldable pub replaceOf : List ℕ → ℕ → Author → ℕ → ℕ → List ℕ → Outcome
+replaceOf s capacity author tag ref content =
     tagged s tag
     (elim (find s tag ref) [
-      | hit p ↦ fitted capacity (slotEdit s p (dataSlot tag ref content (length s)) content)
+      | hit p ↦ fitted capacity (slotEdit s author p (dataSlot tag ref content (length s)) content)
       | miss ↦ refused ABSENT 0
     ])
 
-unfoldable pub removeOf : List ℕ → ℕ → ℕ → ℕ → Outcome
-removeOf s capacity tag ref =
+unfoldable pub removeOf : List ℕ → ℕ → Author → ℕ → ℕ → Outcome
+removeOf s capacity author tag ref =
     tagged s tag
-    (elim (find s tag ref) [ hit p ↦ fitted capacity (slotEdit s p freeSlot []) | miss ↦ refused ABSENT 0 ])
+    (elim (find s tag ref) [ hit p ↦ fitted capacity (slotEdit s author p freeSlot []) | miss ↦ refused ABSENT 0 ])

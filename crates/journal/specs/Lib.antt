@@ -5,6 +5,7 @@ pub mod Undos
 pub mod Buffers
 pub mod Rules
 pub mod History
+pub mod Desks
 pub mod EditRules
 pub mod Cases
 pub mod Steps

@@ -1,10 +1,12 @@
--- The rules of edits and of undo in the order in which they are judged, as facts, after document 01, "Edits and the trailer". The numbers
--- are the paper's own. Assumes nothing.
+-- The rules of edits and of undo in the order in which they are judged, as facts, after document 01, "Edits and the trailer", and document 02
+-- (viii). The numbers are the papers' own. Assumes nothing.
 use Prim.Native.Nat.{ℕ, _+_, _-_, _<_, _≤_}
 use mathlib.Core.Path.{_≡_}
 use mathlib.Core.Logic.{_⊎_}
 use mathlib.Core.List.{List}
+use mathlib.Core.Bool.{Bool, true, false}
 use lib.ListN.{length, take}
+use lib.Dec.{eqb}
 use Rattle.answer.specs.Search.{In}
 use Rattle.answer.specs.Rules.{Rules, done, rule}
 use Rattle.wire.specs.Numbers.{be, put, part}
@@ -39,9 +41,9 @@ NoneFree s = (p : ℕ) → In p (slotsOf s) → Live s p
 abbrev pub HasRoom : List ℕ → Type 0
 HasRoom s = FreeSlot s ⊎ ((length (blocksOf s) < 256) × (length (slotsOf s) ≤ 4080))
 
--- an element of so many bytes more, with a block of 198 bytes where no slot is free, and the trailer of 32, make no more than so many bytes
+-- an element of so many bytes more, with a block of 198 bytes where no slot is free, and the trailer of 36, make no more than so many bytes
 abbrev pub AddedFits : List ℕ → ℕ → ℕ → Type 0
-AddedFits s size most = (FreeSlot s → length s + size + 32 ≤ most) × (NoneFree s → length s + 198 + size + 32 ≤ most)
+AddedFits s size most = (FreeSlot s → length s + size + 36 ≤ most) × (NoneFree s → length s + 198 + size + 36 ≤ most)
 
 abbrev pub addRules : List ℕ → ℕ → ℕ → ℕ → List ℕ → Rules
 addRules buffer n tag ref content =
@@ -61,8 +63,8 @@ changeRules buffer n tag ref size =
     imageRules buffer n
     (rule 7 0 (EditTag tag)
     (rule 11 0 ((p : ℕ) × Named s tag ref p)
-    (rule 1 0 (length s + size + 32 ≤ 2147483647)
-    (rule 19 0 (length s + size + 32 ≤ length buffer)
+    (rule 1 0 (length s + size + 36 ≤ 2147483647)
+    (rule 19 0 (length s + size + 36 ≤ length buffer)
     done))))
 
 abbrev pub replaceRules : List ℕ → ℕ → ℕ → ℕ → List ℕ → Rules
@@ -73,14 +75,21 @@ removeRules buffer n tag ref = changeRules buffer n tag ref 0
 
 -- ---- Undo
 
--- an image carries a trailer
-abbrev pub Carries : List ℕ → Type 0
-Carries s = (42 ≤ length s) × (be 4 s (length s - 4) ≡ 0x4241434b)
+-- an image carries an old trailer, or a long one
+abbrev pub CarriesOld : List ℕ → Type 0
+CarriesOld s = (42 ≤ length s) × (be 4 s (length s - 4) ≡ 0x4241434b)
+
+abbrev pub CarriesLong : List ℕ → Type 0
+CarriesLong s = (46 ≤ length s) × (be 4 s (length s - 4) ≡ 0x42414332)
+
+-- it ends in the closing bytes of a long one
+unfoldable pub endsLong : List ℕ → Bool
+endsLong s = eqb (be 4 s (length s - 4)) 0x42414332
 
 -- the fields of the trailer of s: the place altered, how many bytes, where the old bytes stand and the
--- padding of a next field, the length before, the previous trailer
+-- padding of a next field, the length before, the previous trailer; the desk, 0 in an old one
 abbrev pub trailerPlace : List ℕ → ℕ
-trailerPlace s = length s - 32
+trailerPlace s = length s - elim (endsLong s) [ true ↦ 36 | false ↦ 32 ]
 
 abbrev pub placeAltered : List ℕ → ℕ
 placeAltered s = be 4 s (trailerPlace s)
@@ -100,6 +109,9 @@ lengthBefore s = be 4 s (trailerPlace s + 20)
 abbrev pub previousTrailer : List ℕ → ℕ
 previousTrailer s = be 4 s (trailerPlace s + 24)
 
+abbrev pub deskNamed : List ℕ → ℕ
+deskNamed s = elim (endsLong s) [ true ↦ be 4 s (trailerPlace s + 28) | false ↦ 0 ]
+
 -- the image before: as long as the trailer says, with the old bytes in their place
 unfoldable pub imageBefore : List ℕ → List ℕ
 imageBefore s = put (take (lengthBefore s) s) (placeAltered s) (part s (oldAt s) (bytesAltered s))
@@ -114,20 +126,24 @@ AlteredKnown s =
 abbrev pub PaddingZero : List ℕ → Type 0
 PaddingZero s = bytesAltered s ≡ 4 → (be 4 s (paddingAt s) ≡ 0) × (be 4 s (paddingAt s + 4) ≡ 0)
 
--- the previous trailer is that of the image before, or 0 where it carries none
-abbrev pub PreviousIs : ℕ → List ℕ → Type 0
-PreviousIs previous old = (Carries old → previous ≡ length old - 32) × ((Carries old → ⊥) → previous ≡ 0)
+-- the previous trailer is that of the image before, or 0 where it carries none: by a long trailer's count one of either form, by an old
+-- one's an old one alone
+pub record PreviousIs (s : List ℕ) (previous : ℕ) (old : List ℕ) : Type 0 where
+  pub of-old : CarriesOld old → previous ≡ length old - 32
+  pub of-long : CarriesLong old → previous ≡ elim (endsLong s) [ true ↦ length old - 36 | false ↦ 0 ]
+  pub of-none : (CarriesOld old → ⊥) → (CarriesLong old → ⊥) → previous ≡ 0
 
-abbrev pub undoRules : List ℕ → ℕ → Rules
-undoRules buffer n =
+abbrev pub undoRules : List ℕ → ℕ → ℕ → Rules
+undoRules buffer n desk =
     let s = take n buffer in
     let t = trailerPlace s in
     imageRules buffer n
-    (rule 20 0 (Carries s)
+    (rule 20 0 (CarriesOld s ⊎ CarriesLong s)
     (rule 21 t (lengthBefore s ≤ t)
     (rule 21 t (AlteredKnown s)
     (rule 21 t (placeAltered s + bytesAltered s ≤ lengthBefore s)
     (rule 21 t (PaddingZero s)
-    (rule 21 t (PreviousIs (previousTrailer s) (imageBefore s))
+    (rule 21 t (PreviousIs s (previousTrailer s) (imageBefore s))
     (rule 21 t (openOf (imageBefore s) .number ≡ 0)
-    done)))))))
+    (rule 30 t (deskNamed s ≡ desk)
+    done))))))))

@@ -1,19 +1,22 @@
--- What undo (document 01's take-back) makes of a whole file, after "Edits and the trailer". Assumes nothing.
+-- What undo (document 01's take-back) makes of a whole file for a desk, after "Edits and the trailer" and document 02 (viii). Assumes nothing.
 use Prim.Native.Nat.{ℕ, _+_, _-_}
 use mathlib.Core.List.{List}
-use mathlib.Core.Bool.{Bool, true, false, _&&_, _||_}
+use mathlib.Core.Bool.{Bool, _&&_, _||_}
 use lib.ListN.{length, take}
 use lib.Dec.{leb, eqb}
-use Rattle.answer.specs.Refusals.{NO-EDIT, BAD-TRAILER}
-use Rattle.answer.specs.Search.{any}
+use Rattle.answer.specs.Refusals.{NO-EDIT, BAD-TRAILER, OTHER-DESK}
+use Rattle.answer.specs.Search.{any, must}
 use Rattle.wire.specs.Numbers.{put}
 use Rattle.directory.specs.Blocks.{blocksOf}
 use Rattle.directory.specs.Slots.{slotsOf}
 use Rattle.directory.specs.Rooms.{isLink}
 use Rattle.directory.specs.Opening.{openOf}
-use Rattle.journal.specs.Outcomes.{Outcome, granted, refused, openedTo}
-use Rattle.journal.specs.Trailers.{trailer-size, slot-size, link-size, trailerAt, carries, previousOf, oldBytes}
+use Rattle.journal.specs.Outcomes.{Outcome, granted, refused, passing, openedTo}
+use Rattle.journal.specs.Trailers.{formSize, slot-size, link-size, trailerAt, carriedBy, previousOf, oldBytes}
 use Rattle.journal.specs.declared.change.Change.{Change}
+use Rattle.journal.specs.declared.change.Form.{Form}
+use Rattle.journal.specs.declared.change.Ending.{Ending}
+use Rattle.journal.specs.declared.change.Ending.the-variants.{Nothing, Trailer}
 
 -- the file cut to its length before, with the old bytes put back
 unfoldable pub restored : List ℕ → Change → List ℕ
@@ -32,21 +35,29 @@ known s t c = leb (c .before) t && placeKnown s c && leb (c .place + c .altered)
 unfoldable pub opens : List ℕ → Bool
 opens s = eqb (openOf s .number) 0
 
--- the rules by the restored image: its trailer, or none, is the previous one, and it opens
-unfoldable pub sound : ℕ → List ℕ → Bool
-sound previous image = eqb previous (previousOf image) && opens image
+-- the rules by the restored image: its trailer, or none, is the previous one as a trailer of a form names it, and it opens
+unfoldable pub sound : Form → ℕ → List ℕ → Bool
+sound form previous image = eqb previous (previousOf form image) && opens image
 
--- what a trailer at t restores, where it keeps the rules
-unfoldable pub undoTo : List ℕ → ℕ → Change → Outcome
-undoTo s t c =
-    elim (known s t c && sound (c .previous) (restored s c)) [
-      | false ↦ refused BAD-TRAILER t
-      | true ↦ granted (restored s c)
-    ]
+-- an edit of a desk is taken back for that desk alone: the number of the rule that another one breaks, or 0
+unfoldable pub deskFault : ℕ → ℕ → ℕ
+deskFault own desk = must (eqb own desk) OTHER-DESK 0
 
-unfoldable pub undoOf : List ℕ → Outcome
-undoOf s =
-    openedTo s (elim (carries s) [
-      | false ↦ refused NO-EDIT 0
-      | true ↦ let t = length s - trailer-size in undoTo s t (trailerAt s t)
-    ])
+abbrev pub forDesk : ℕ → ℕ → ℕ → List ℕ → Outcome
+forDesk own desk place file = passing (deskFault own desk) place (granted file)
+
+-- 21 is judged whole, then 30
+unfoldable pub restoredFault : Form → Change → ℕ → List ℕ → ℕ
+restoredFault form c desk image = must (sound form (c .previous) image) BAD-TRAILER (deskFault (c .desk) desk)
+
+-- what a trailer of a form at t restores for a desk, where all these rules are kept
+unfoldable pub undoTo : List ℕ → ℕ → Form → ℕ → Change → Outcome
+undoTo s desk form t c =
+    passing (must (known s t c) BAD-TRAILER (restoredFault form c desk (restored s c))) t (granted (restored s c))
+
+unfoldable pub undoBy : List ℕ → ℕ → Ending → Outcome
+undoBy s desk Nothing = refused NO-EDIT 0
+undoBy s desk (Trailer form) = let t = length s - formSize form in undoTo s desk form t (trailerAt form s t)
+
+unfoldable pub undoOf : List ℕ → ℕ → Outcome
+undoOf s desk = openedTo s (undoBy s desk (carriedBy s))

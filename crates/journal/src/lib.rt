@@ -10,12 +10,15 @@ use answer::refusals::BAD_TRAILER;
 use answer::refusals::DIR_BIG;
 use answer::refusals::NO_EDIT;
 use answer::refusals::NO_ROOM;
+use answer::refusals::OTHER_DESK;
 use answer::refusals::PRESENT;
 use answer::refusals::TOO_LONG;
 use change::Change;
+use change::Ending;
+use change::Form;
 use change::LINK;
+use change::LONG_SIZE;
 use change::SLOT;
-use change::TRAILER_SIZE;
 use directory::Counts;
 use directory::Found;
 use directory::Opened;
@@ -38,7 +41,7 @@ ghost use Rattle.directory.specs.Limits.{most-bytes};
 ghost use Rattle.directory.specs.Opening.{openOf};
 ghost use Rattle.journal.specs.Trailers.{slot-size};
 ghost use Rattle.journal.specs.Edits.{badTag, fitFault};
-ghost use Rattle.journal.specs.Undos.{sound, undoOf};
+ghost use Rattle.journal.specs.Undos.{sound, restoredFault, undoOf};
 ghost use Rattle.journal.specs.Buffers.{addIn, replaceIn, removeIn, undoIn, Leaves};
 ghost use Rattle.journal.specs.Steps.Changes.{OpensIn, Targets, slotIn, blockIn, newIn};
 ghost use Rattle.journal.specs.Steps.Restores.{Restorable};
@@ -99,20 +102,21 @@ fn put_slot(
     buffer: &mut [u8],
     n: usize,
     p: usize,
+    desk: u32,
     tag: u16,
     reference: u16,
     content: &[u8],
 ) -> Edited
     requires { ⌜ (n ≤ most-bytes) × (n ≤ length (now buffer)) × (p + slot-size ≤ n) ⌝ }
-    ensures { λ r. ⌜ Leaves (slotIn (now (buffer .entry)) n p tag reference (now (content .entry)))
+    ensures { λ r. ⌜ Leaves (slotIn (now (buffer .entry)) n p desk tag reference (now (content .entry)))
         (now (buffer .entry)) (now (buffer .exit)) r ⌝ }
 {
     let end = n + content.len();
-    let number = fit_fault(end + TRAILER_SIZE, buffer.len());
+    let number = fit_fault(end + LONG_SIZE, buffer.len());
     if number != 0 {
         return Edited::Refused(Refusal { number, place: 0 });
     }
-    let change = change::change_at(&buffer[..n], p, SLOT);
+    let change = change::change_at(&buffer[..n], desk, p, SLOT);
     wire::write_bytes(buffer, n, content);
     change::write_trailer(buffer, end, change);
     write::write_slot(
@@ -123,7 +127,7 @@ fn put_slot(
         write::offset_of(content, n),
         content.len(),
     );
-    Edited::Granted(end + TRAILER_SIZE)
+    Edited::Granted(end + LONG_SIZE)
 }
 
 // Appends a block, whose first slot is pointed at data after it, and links it from the block at b.
@@ -131,21 +135,22 @@ fn put_block(
     buffer: &mut [u8],
     n: usize,
     b: usize,
+    desk: u32,
     tag: u16,
     reference: u16,
     content: &[u8],
 ) -> Edited
     requires { ⌜ (n ≤ most-bytes) × (n ≤ length (now buffer)) × (b + 6 ≤ n) ⌝ }
-    ensures { λ r. ⌜ Leaves (blockIn (now (buffer .entry)) n b tag reference (now (content .entry)))
+    ensures { λ r. ⌜ Leaves (blockIn (now (buffer .entry)) n b desk tag reference (now (content .entry)))
         (now (buffer .entry)) (now (buffer .exit)) r ⌝ }
 {
     let start = n + BLOCK_SIZE;
     let end = start + content.len();
-    let number = fit_fault(end + TRAILER_SIZE, buffer.len());
+    let number = fit_fault(end + LONG_SIZE, buffer.len());
     if number != 0 {
         return Edited::Refused(Refusal { number, place: 0 });
     }
-    let change = change::change_at(&buffer[..n], b + 2, LINK);
+    let change = change::change_at(&buffer[..n], desk, b + 2, LINK);
     write::write_block(
         buffer,
         n,
@@ -157,7 +162,7 @@ fn put_block(
     wire::write_bytes(buffer, start, content);
     change::write_trailer(buffer, end, change);
     wire::write32(buffer, b + 2, n);
-    Edited::Granted(end + TRAILER_SIZE)
+    Edited::Granted(end + LONG_SIZE)
 }
 
 // What an edit of a tag and a reference meets in the image: a refusal, the slot, or no such slot.
@@ -192,18 +197,19 @@ fn put_new(
     buffer: &mut [u8],
     n: usize,
     counts: Counts,
+    desk: u32,
     tag: u16,
     reference: u16,
     content: &[u8],
 ) -> Edited
     requires { ⌜ (n ≤ length (now buffer))
         × (openOf (take n (now buffer)) ≡ grant (counts .blocks ∷ counts .slots ∷ counts .live ∷ [])) ⌝ }
-    ensures { λ r. ⌜ Leaves (newIn (now (buffer .entry)) n tag reference (now (content .entry)))
+    ensures { λ r. ⌜ Leaves (newIn (now (buffer .entry)) n desk tag reference (now (content .entry)))
         (now (buffer .entry)) (now (buffer .exit)) r ⌝ }
 {
     let room = directory::places::find_room(&buffer[..n], counts.blocks);
     match room {
-        Room::Slot(p) => put_slot(buffer, n, p, tag, reference, content),
+        Room::Slot(p) => put_slot(buffer, n, p, desk, tag, reference, content),
         Room::Block(b) => {
             if MOST_BLOCKS <= counts.blocks {
                 return Edited::Refused(Refusal {
@@ -217,14 +223,21 @@ fn put_new(
                     place: 0,
                 });
             }
-            put_block(buffer, n, b, tag, reference, content)
+            put_block(buffer, n, b, desk, tag, reference, content)
         }
     }
 }
 
 // Adds an element.
-pub fn add(buffer: &mut [u8], n: usize, tag: u16, reference: u16, content: &[u8]) -> Edited
-    ensures { λ r. ⌜ Leaves (addIn (now (buffer .entry)) n tag reference (now (content .entry)))
+pub fn add(
+    buffer: &mut [u8],
+    n: usize,
+    desk: u32,
+    tag: u16,
+    reference: u16,
+    content: &[u8],
+) -> Edited
+    ensures { λ r. ⌜ Leaves (addIn (now (buffer .entry)) n desk tag reference (now (content .entry)))
         (now (buffer .entry)) (now (buffer .exit)) r ⌝ }
 {
     let met = meet(buffer, n, tag, reference);
@@ -234,19 +247,26 @@ pub fn add(buffer: &mut [u8], n: usize, tag: u16, reference: u16, content: &[u8]
             number: PRESENT,
             place: 0,
         }),
-        Target::Absent(counts) => put_new(buffer, n, counts, tag, reference, content),
+        Target::Absent(counts) => put_new(buffer, n, counts, desk, tag, reference, content),
     }
 }
 
 // Points an element at new data, under its base tag.
-pub fn replace(buffer: &mut [u8], n: usize, tag: u16, reference: u16, content: &[u8]) -> Edited
-    ensures { λ r. ⌜ Leaves (replaceIn (now (buffer .entry)) n tag reference (now (content .entry)))
+pub fn replace(
+    buffer: &mut [u8],
+    n: usize,
+    desk: u32,
+    tag: u16,
+    reference: u16,
+    content: &[u8],
+) -> Edited
+    ensures { λ r. ⌜ Leaves (replaceIn (now (buffer .entry)) n desk tag reference (now (content .entry)))
         (now (buffer .entry)) (now (buffer .exit)) r ⌝ }
 {
     let met = meet(buffer, n, tag, reference);
     match met {
         Target::Refused(r) => Edited::Refused(r),
-        Target::Present(p) => put_slot(buffer, n, p, tag, reference, content),
+        Target::Present(p) => put_slot(buffer, n, p, desk, tag, reference, content),
         Target::Absent(_) => Edited::Refused(Refusal {
             number: ABSENT,
             place: 0,
@@ -255,14 +275,14 @@ pub fn replace(buffer: &mut [u8], n: usize, tag: u16, reference: u16, content: &
 }
 
 // Frees an element's slot.
-pub fn remove(buffer: &mut [u8], n: usize, tag: u16, reference: u16) -> Edited
-    ensures { λ r. ⌜ Leaves (removeIn (now (buffer .entry)) n tag reference)
+pub fn remove(buffer: &mut [u8], n: usize, desk: u32, tag: u16, reference: u16) -> Edited
+    ensures { λ r. ⌜ Leaves (removeIn (now (buffer .entry)) n desk tag reference)
         (now (buffer .entry)) (now (buffer .exit)) r ⌝ }
 {
     let met = meet(buffer, n, tag, reference);
     match met {
         Target::Refused(r) => Edited::Refused(r),
-        Target::Present(p) => put_slot(buffer, n, p, 1, 0, b""),
+        Target::Present(p) => put_slot(buffer, n, p, desk, 1, 0, b""),
         Target::Absent(_) => Edited::Refused(Refusal {
             number: ABSENT,
             place: 0,
@@ -270,11 +290,11 @@ pub fn remove(buffer: &mut [u8], n: usize, tag: u16, reference: u16) -> Edited
     }
 }
 
-// Whether a restored image opens, and its trailer, or none, is the previous one.
-fn is_sound(image: &[u8], previous: usize) -> bool
-    ensures { λ r. ⌜ r ≡ sound previous (now (image .entry)) ⌝ }
+// Whether a restored image opens, and its trailer, or none, is the previous one that a trailer of a form names.
+fn is_sound(image: &[u8], form: Form, previous: usize) -> bool
+    ensures { λ r. ⌜ r ≡ sound form previous (now (image .entry)) ⌝ }
 {
-    if previous != change::previous_of(image) {
+    if previous != change::previous_of(image, form) {
         return false;
     }
     let opened = directory::open(image);
@@ -284,27 +304,48 @@ fn is_sound(image: &[u8], previous: usize) -> bool
     }
 }
 
-// Puts the old bytes back, and the present ones again where the restored image is not sound.
-fn restore(buffer: &mut [u8], n: usize, present: Change, change: Change) -> Edited
-    requires { ⌜ Restorable (now buffer) n present change ⌝ }
-    ensures { λ r. ⌜ Leaves (undoOf (take n (now (buffer .entry))))
+// The number of the rule that a trailer breaks by the image that it restores, or that a desk breaks which asks for it; 0 where none is broken.
+fn restored_fault(image: &[u8], form: Form, change: Change, desk: u32) -> usize
+    ensures { λ r. ⌜ r ≡ restoredFault form change desk (now (image .entry)) ⌝ }
+{
+    if !is_sound(image, form, change.previous) {
+        return BAD_TRAILER;
+    }
+    if change.desk != desk as usize {
+        return OTHER_DESK;
+    }
+    0
+}
+
+// Puts the old bytes back, and the present ones again where the restored image, or the desk, breaks a rule.
+fn restore(
+    buffer: &mut [u8],
+    n: usize,
+    form: Form,
+    desk: u32,
+    present: Change,
+    change: Change,
+) -> Edited
+    requires { ⌜ Restorable (now buffer) n form present change ⌝ }
+    ensures { λ r. ⌜ Leaves (undoOf (take n (now (buffer .entry))) desk)
         (now (buffer .entry)) (now (buffer .exit)) r ⌝ }
 {
     let before = change.before;
     change::write_back(buffer, change);
-    if is_sound(&buffer[..before], change.previous) {
+    let number = restored_fault(&buffer[..before], form, change, desk);
+    if number == 0 {
         return Edited::Granted(before);
     }
     change::write_back(buffer, present);
     Edited::Refused(Refusal {
-        number: BAD_TRAILER,
-        place: n - TRAILER_SIZE,
+        number,
+        place: n - change::size_of(form),
     })
 }
 
-// Takes back the newest edit that the file carries.
-pub fn undo(buffer: &mut [u8], n: usize) -> Edited
-    ensures { λ r. ⌜ Leaves (undoIn (now (buffer .entry)) n)
+// Takes back the newest edit that the file carries, for the desk that made it.
+pub fn undo(buffer: &mut [u8], n: usize, desk: u32) -> Edited
+    ensures { λ r. ⌜ Leaves (undoIn (now (buffer .entry)) n desk)
         (now (buffer .entry)) (now (buffer .exit)) r ⌝ }
 {
     let opened = open_in(buffer, n);
@@ -312,20 +353,21 @@ pub fn undo(buffer: &mut [u8], n: usize) -> Edited
         return Edited::Refused(directory::refusal_of(opened));
     };
     let image = &buffer[..n];
-    if !change::carries_trailer(image) {
+    let ending = change::carried_by(image);
+    let Ending::Trailer(form) = ending else {
         return Edited::Refused(Refusal {
             number: NO_EDIT,
             place: 0,
         });
-    }
-    let t = n - TRAILER_SIZE;
-    let change = change::read_trailer(image, t);
+    };
+    let t = n - change::size_of(form);
+    let change = change::read_trailer(image, t, form);
     if !change::is_known(image, counts.blocks, t, change) {
         return Edited::Refused(Refusal {
             number: BAD_TRAILER,
             place: t,
         });
     }
-    let present = change::change_at(image, change.place, change.altered);
-    restore(buffer, n, present, change)
+    let present = change::change_at(image, desk, change.place, change.altered);
+    restore(buffer, n, form, desk, present, change)
 }

@@ -60,9 +60,20 @@ pub const fn unstored(tag: u16) -> [u8; 12] {
     slot(tag, 1, ALL_ONES, ALL_ONES)
 }
 
-/// The trailer of an edit: place altered, bytes altered, old bytes, length before, and place of the previous trailer.
-pub fn trailer(place: u32, altered: u32, old: [u8; 12], before: u32, previous: u32) -> Vec<u8> {
-    [&numbers32(&[place, altered]), &old[..], &numbers32(&[before, previous]), b"BACK"].concat()
+/// What a trailer of either form begins with: place altered, bytes altered, old bytes, length before, and place of the previous
+/// trailer.
+pub fn change(place: u32, altered: u32, old: [u8; 12], before: u32, previous: u32) -> Vec<u8> {
+    [&numbers32(&[place, altered]), &old[..], &numbers32(&[before, previous])].concat()
+}
+
+/// The trailer of an edit by a desk.
+pub fn long_trailer(change: Vec<u8>, desk: u32) -> Vec<u8> {
+    [&change[..], &desk.to_be_bytes(), b"BAC2"].concat()
+}
+
+/// The trailer of an edit from before trailers named a desk.
+pub fn old_trailer(change: Vec<u8>) -> Vec<u8> {
+    [&change[..], b"BACK"].concat()
 }
 
 /// Numbers of 16 bits, one after the other.

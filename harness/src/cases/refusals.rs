@@ -33,8 +33,17 @@ pub struct Case {
     of: &'static str,
     faults: Vec<&'static str>,
     steps: Vec<Step>,
-    /// Whether a sparse record is read, whose rules are others than those of a full one.
-    is_sparse: bool,
+    variant: Variant,
+}
+
+/// What a call is made on, where its rules or their places are others by it. What is shown of each stands apart.
+#[derive(Clone, Copy, PartialEq, Eq)]
+enum Variant {
+    Usual,
+    /// A linked element with a sparse record.
+    Sparse,
+    /// A file with a trailer of the old form.
+    OldTrailer,
 }
 
 /// A call, the rule that answers it, and what the paper says of it.
@@ -98,6 +107,7 @@ fn cases() -> Vec<Case> {
         opening::cases(),
         with(&TOO_LONG, with(&OPENING, reading)),
         edits::with_lengths(with(&OPENING, edits)),
+        undo::shortest_files(),
         packing::cases(),
     ]
     .concat()
@@ -116,19 +126,19 @@ const fn broken(rule: &'static str, name: &'static str, answer: [u64; 3], spoil:
 /// A call that is granted: its values, and what it writes.
 fn granted(of: &'static str, ask: Ask, values: &[u64], written: Written) -> Case {
     let step = Step { rule: NO_RULE, ask, paper: Answer::granted(values, written) };
-    Case { of, faults: Vec::new(), steps: vec![step], is_sparse: false }
+    Case { of, faults: Vec::new(), steps: vec![step], variant: Variant::Usual }
 }
 
 /// A call that one rule refuses, with number and place.
 fn refused(of: &'static str, rule: &'static str, ask: Ask, answer: [u64; 2]) -> Case {
     let step = Step { rule, ask, paper: Answer::refused(answer) };
-    Case { of, faults: Vec::new(), steps: vec![step], is_sparse: false }
+    Case { of, faults: Vec::new(), steps: vec![step], variant: Variant::Usual }
 }
 
 /// A call that two rules refuse, and the same with the first of them mended.
 fn in_order(of: &'static str, first: (&'static str, Ask, [u64; 2]), mended: (&'static str, Ask, [u64; 2])) -> Case {
     let step = |(rule, ask, answer)| Step { rule, ask, paper: Answer::refused(answer) };
-    Case { of, faults: Vec::new(), steps: vec![step(first), step(mended)], is_sparse: false }
+    Case { of, faults: Vec::new(), steps: vec![step(first), step(mended)], variant: Variant::Usual }
 }
 
 /// The cases of one call with each of the faults, whose rules are judged first. Where a case is granted, the fault is alone.
@@ -163,11 +173,12 @@ fn with(faults: &[Fault], mut cases: Vec<Case>) -> Vec<Case> {
     cases
 }
 
-/// The name of a call; that of one on a sparse record stands apart.
-fn name_of_call(call: Call, is_sparse: bool) -> String {
-    match is_sparse {
-        true => format!("{call:?} by 16 bytes"),
-        false => format!("{call:?}"),
+/// The name of a call, with what it is made on.
+fn name_of_call(call: Call, variant: Variant) -> String {
+    match variant {
+        Variant::Usual => format!("{call:?}"),
+        Variant::Sparse => format!("{call:?} by 16 bytes"),
+        Variant::OldTrailer => format!("{call:?} by 32 bytes"),
     }
 }
 
@@ -210,7 +221,7 @@ impl Case {
     }
 
     fn name(&self) -> String {
-        let call = name_of_call(self.steps[0].ask.call, self.is_sparse);
+        let call = name_of_call(self.steps[0].ask.call, self.variant);
         let (of, faults) = (self.of, self.faults.join(", and "));
         match self.faults.as_slice() {
             [] => format!("refusals, {call} of {of}"),
@@ -220,7 +231,15 @@ impl Case {
 
     /// The case of a linked element whose record has this layout.
     fn in_layout(self, layout: Layout) -> Case {
-        Case { is_sparse: layout == Layout::Sparse, ..self }
+        match layout {
+            Layout::Full => self,
+            Layout::Sparse => Case { variant: Variant::Sparse, ..self },
+        }
+    }
+
+    /// The case of a file with a trailer of the old form.
+    fn of_old_trailer(self) -> Case {
+        Case { variant: Variant::OldTrailer, ..self }
     }
 }
 

@@ -1,7 +1,7 @@
 //! Edits and undo: each call by library, editor and history, and the whole buffer compared after it.
 
 use super::Difference;
-use crate::editor::{self, Kind, Refused, Request, Trailer};
+use crate::editor::{self, Edit, Form, Kind, Refused, Request, Trailer};
 use crate::history::History;
 use crate::lent::surround;
 use crate::reader::slot_at;
@@ -46,10 +46,13 @@ impl Lending {
 
     /// One call on the file in the buffer.
     pub fn call(&mut self, request: &Request, tally: &mut Tally) -> Result<EditAnswer, Difference> {
+        let form = editor::carried(self.file());
         let library = self.call_with(self.length, request, tally)?;
         if library.number == 0 {
             self.length = library.length;
-            tally.undone_starts += u64::from(matches!(request, Request::Undo) && self.history.edits() == 0);
+        }
+        if let (Request::Undo { .. }, Some(form)) = (request, form) {
+            tally.edits.count_undo(library.number, self.history.edits() > 0, form);
         }
         let history = self.history.call(request);
         same_answer(request, library, "history", expected(history))?;
@@ -62,6 +65,7 @@ impl Lending {
     /// One call by library and editor, with any n. The history does not see it.
     pub fn call_with(&mut self, n: u64, request: &Request, tally: &mut Tally) -> Result<EditAnswer, Difference> {
         let made = editor::call(self.buffer(), n, request);
+        let form = editor::file_in(self.buffer(), n).ok().and_then(editor::carried);
         let mut memory = self.memory.clone();
         if let Ok(file) = &made {
             memory[self.buffer.start..][..file.len()].copy_from_slice(file);
@@ -77,17 +81,27 @@ impl Lending {
         }
         tally.count(request.call(), library.number);
         match made {
-            Err(refused) => tally.count_reason(request.call(), refused.reason),
-            Ok(file) if self.altered_unstored(file.len().max(n as usize)) => tally.count_unstored(request.call()),
-            Ok(_) => {}
+            Err(refused) => tally.edits.count_refused(request.call(), &refused),
+            Ok(file) => self.count_granted(request.call(), n as usize, form, &file, tally),
         }
         Ok(library)
+    }
+
+    /// A granted call on so many bytes, which carried a trailer of this form or none, and the file that it made of them.
+    fn count_granted(&self, call: Call, n: usize, form: Option<Form>, made: &[u8], tally: &mut Tally) {
+        match call {
+            Call::Undo => tally.edits.count_granted(call, form, editor::carried(made)),
+            _ => tally.edits.count_granted(call, None, form),
+        }
+        if self.altered_unstored(n.max(made.len())) {
+            tally.count_unstored(call);
+        }
     }
 
     /// Whether the trailer that ends there, left by an edit or used by an undo, has the bytes of a slot whose element is not
     /// stored yet.
     fn altered_unstored(&self, end: usize) -> bool {
-        slot_at(&Trailer::of(&self.buffer()[..end]).old, 0).is_unstored()
+        Trailer::of(&self.buffer()[..end]).is_some_and(|trailer| slot_at(&trailer.old, 0).is_unstored())
     }
 }
 
@@ -102,11 +116,14 @@ fn lend(buffer: &mut [u8], n: u64, request: &Request) -> Result<EditAnswer, Diff
 }
 
 pub fn call_library(buffer: &mut [u8], n: u64, request: &Request) -> EditAnswer {
-    let Request::Edit(edit) = request else { return library::undo(buffer, n) };
-    match edit.kind {
-        Kind::Add => library::add(buffer, n, edit.tag, edit.reference, &edit.data),
-        Kind::Replace => library::replace(buffer, n, edit.tag, edit.reference, &edit.data),
-        Kind::Remove => library::remove(buffer, n, edit.tag, edit.reference),
+    let Edit { desk, kind, tag, reference, data } = match request {
+        Request::Undo { desk } => return library::undo(buffer, n, *desk),
+        Request::Edit(edit) => edit,
+    };
+    match kind {
+        Kind::Add => library::add(buffer, n, *desk, *tag, *reference, data),
+        Kind::Replace => library::replace(buffer, n, *desk, *tag, *reference, data),
+        Kind::Remove => library::remove(buffer, n, *desk, *tag, *reference),
     }
 }
 
@@ -149,7 +166,7 @@ pub fn first_difference(library: &[u8], other: &[u8]) -> Option<String> {
 impl Request {
     pub fn call(&self) -> Call {
         match self {
-            Request::Undo => Call::Undo,
+            Request::Undo { .. } => Call::Undo,
             Request::Edit(edit) => match edit.kind {
                 Kind::Add => Call::Add,
                 Kind::Replace => Call::Replace,
@@ -160,7 +177,7 @@ impl Request {
 
     pub fn data(&self) -> &[u8] {
         match self {
-            Request::Undo => &[],
+            Request::Undo { .. } => &[],
             Request::Edit(edit) => &edit.data,
         }
     }
@@ -169,8 +186,11 @@ impl Request {
 /// The arguments of the call.
 impl fmt::Display for Request {
     fn fmt(&self, out: &mut fmt::Formatter) -> fmt::Result {
-        let Request::Edit(edit) = self else { return write!(out, "[]") };
-        write!(out, "[{}/{}", edit.tag, edit.reference)?;
+        let edit = match self {
+            Request::Undo { desk } => return write!(out, "[desk {desk}]"),
+            Request::Edit(edit) => edit,
+        };
+        write!(out, "[desk {}, {}/{}", edit.desk, edit.tag, edit.reference)?;
         match edit.kind {
             Kind::Remove => write!(out, "]"),
             _ => write!(out, ", {} bytes]", edit.data.len()),

@@ -1,7 +1,7 @@
 //! Files that open, to begin a sequence of edits with.
 
 use super::draft::{fill_slots, lay_out, well_formed, Draft, Size, SLOT_SIZE};
-use crate::editor::CLOSING;
+use crate::editor::FORMS;
 use crate::random::Random;
 use crate::reader::{FIRST_BYTES, FREE, MOST_BLOCKS};
 
@@ -27,7 +27,8 @@ pub fn ends_like_a_trailer(random: &mut Random) -> Vec<u8> {
     let free = random.pick(&[3, NONE_FREE, NONE_FREE]);
     fill_slots(random, &mut draft, free);
     draft.put_tag(end - SLOT_SIZE, FREE);
-    draft.put(end - CLOSING.len(), &CLOSING);
+    let closing = random.pick(&FORMS).closing();
+    draft.put(end - closing.len(), &closing);
     draft.bytes
 }
 

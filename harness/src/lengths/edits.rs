@@ -2,11 +2,13 @@
 
 use super::MOST;
 use crate::compare::edits::{call_library, expected, first_difference, same_answer};
-use crate::editor::{self, slot, Change, Edit, Kind, Reason, Refused, Request, BLOCK_SIZE, TRAILER_SIZE};
+use crate::editor::{self, slot, Change, Edit, Form, Kind, Reason, Refused, Request, BLOCK_SIZE};
 use crate::reader::{FIRST_BYTES, FREE, MOST_BLOCKS};
 use crate::tally::Tally;
 use hdf4_sys::EditAnswer;
 
+const TRAILER_SIZE: usize = Form::Long.size();
+const DESK: u32 = 7;
 const WATCHED: usize = 4096;
 const PAST_LIMIT: usize = 300;
 
@@ -67,9 +69,9 @@ fn other_rules(long: &mut Long) -> Result<(), String> {
     long.refused(MOST, &edit(Kind::Replace, 100, 2, 1), Reason::Absent)?;
     for n in [MOST + 1, MOST + PAST_LIMIT, MOST + PAST_LIMIT + 1] {
         long.refused(n, &remove, Reason::Length)?;
-        long.refused(n, &Request::Undo, Reason::Length)?;
+        long.refused(n, &Request::Undo { desk: DESK }, Reason::Length)?;
     }
-    long.refused(MOST, &Request::Undo, Reason::NoTrailer)
+    long.refused(MOST, &Request::Undo { desk: DESK }, Reason::NoTrailer)
 }
 
 /// A small file, and data that make it too long: for the buffer, for a file, and for 32 bits.
@@ -93,7 +95,7 @@ impl Long<'_> {
         Long { buffer: &mut self.buffer[..capacity], tally: self.tally }
     }
 
-    /// An edit that must be granted, and its undo.
+    /// An edit that must be granted, and its undo, which another desk asks for first.
     fn granted(&mut self, n: usize, request: &Request) -> Result<(), String> {
         let mut watched = Watched::new(self.buffer, n);
         let Change { place, bytes, appended } = self.expect(n, request).map_err(|refused| format!("{refused:?}"))?;
@@ -102,8 +104,10 @@ impl Long<'_> {
         watched.put(place, &bytes);
         watched.put(n, &appended);
         self.compare(n, request, Ok(length as u64), &watched)?;
+        let refused = Refused::by_desk(length as u64, Form::Long);
+        self.compare(length, &Request::Undo { desk: DESK + 1 }, Err(refused), &watched)?;
         watched.put(place, &old);
-        self.compare(length, &Request::Undo, Ok(n as u64), &watched)?;
+        self.compare(length, &Request::Undo { desk: DESK }, Ok(n as u64), &watched)?;
         self.buffer[n..length].fill(0);
         Ok(())
     }
@@ -112,10 +116,7 @@ impl Long<'_> {
     fn refused(&mut self, n: usize, request: &Request, reason: Reason) -> Result<(), String> {
         let watched = Watched::new(self.buffer, n);
         match self.expect(n, request) {
-            Err(refused) if refused.reason == reason => {
-                self.tally.count_reason(request.call(), reason);
-                self.compare(n, request, Err(refused), &watched)
-            }
+            Err(refused) if refused.reason == reason => self.compare(n, request, Err(refused), &watched),
             other => Err(format!("{request} with n = {n}: not {reason:?} by the editor, but {:?}", other.err())),
         }
     }
@@ -124,8 +125,8 @@ impl Long<'_> {
     fn expect(&self, n: usize, request: &Request) -> Result<Change, Refused> {
         let file = editor::file_in(self.buffer, n as u64)?;
         match request {
-            Request::Edit(edit) => editor::change(file, self.buffer.len() as u64, edit),
-            Request::Undo => Err(editor::undo(file).expect_err("nothing to undo")),
+            Request::Edit(edit) => editor::change(file, self.buffer.len() as u64, edit, Form::Long),
+            Request::Undo { desk } => Err(editor::undo(file, *desk).expect_err("nothing to undo")),
         }
     }
 
@@ -140,6 +141,9 @@ impl Long<'_> {
         let same = same_answer(request, library, "editor", expected(outcome));
         same.map_err(|difference| difference.to_string())?;
         self.tally.count(request.call(), library.number);
+        if let Err(refused) = outcome {
+            self.tally.edits.count_refused(request.call(), &refused);
+        }
         match watched.difference(self.buffer) {
             Some(difference) => Err(format!("{:?} {request} with n = {n}: {difference}", request.call())),
             None => Ok(()),
@@ -172,7 +176,7 @@ impl Watched {
 }
 
 fn edit(kind: Kind, tag: u16, reference: u16, size: usize) -> Request {
-    Request::Edit(Edit { kind, tag, reference, data: vec![0; size] })
+    Request::Edit(Edit { desk: DESK, kind, tag, reference, data: vec![0; size] })
 }
 
 /// Writes the first bytes of a file and its blocks.

@@ -1,6 +1,7 @@
 //! Random calls on a file: most can be granted, others break a rule or come close to it.
 
-use crate::editor::{Edit, Kind, Request, BLOCK_SIZE, TRAILER_SIZE};
+use super::desks::Desks;
+use crate::editor::{Edit, Form, Kind, Request, BLOCK_SIZE};
 use crate::random::Random;
 use crate::reader::{self, base_tag, EXTENDED, MOST_BYTES};
 
@@ -19,22 +20,22 @@ pub struct Mix {
 
 pub const ALL_KINDS: &[Kind] = &[Kind::Add, Kind::Add, Kind::Replace, Kind::Remove];
 
-/// A call on a file in a buffer.
-pub fn request(random: &mut Random, file: &[u8], capacity: usize, mix: Mix) -> Request {
+/// A call on a file in a buffer, by one of the desks.
+pub fn request(random: &mut Random, file: &[u8], capacity: usize, mix: Mix, desks: &mut Desks) -> Request {
     match random.below(100) < mix.undos {
-        true => Request::Undo,
-        false => Request::Edit(edit(random, file, capacity, mix.kinds)),
+        true => Request::Undo { desk: desks.of_undo(random, file) },
+        false => Request::Edit(edit(random, file, capacity, mix.kinds, desks)),
     }
 }
 
-pub fn edit(random: &mut Random, file: &[u8], capacity: usize, kinds: &[Kind]) -> Edit {
+pub fn edit(random: &mut Random, file: &[u8], capacity: usize, kinds: &[Kind], desks: &mut Desks) -> Edit {
     let kind = random.pick(kinds);
     let expected = kind != Kind::Add;
     let live = if random.once_in(7) { !expected } else { expected };
     let (tag, reference) = pair(random, &live_pairs(file), live);
     let tag = if random.once_in(14) { bad_tag(random, tag) } else { tag };
     let size = if kind == Kind::Remove { 0 } else { size(random, file.len(), capacity) };
-    Edit { kind, tag, reference, data: random.bytes(size) }
+    Edit { desk: desks.next(random), kind, tag, reference, data: random.bytes(size) }
 }
 
 /// A number of bytes that no file in a buffer can have.
@@ -85,7 +86,7 @@ fn bad_tag(random: &mut Random, tag: u16) -> u16 {
 
 /// How many bytes of data: none, a few, many, or about as many as the buffer has room for.
 fn size(random: &mut Random, length: usize, capacity: usize) -> usize {
-    let room = capacity.saturating_sub(length + TRAILER_SIZE);
+    let room = capacity.saturating_sub(length + Form::Long.size());
     match random.below(14) {
         0 | 1 => 0,
         2 => about(random, room),

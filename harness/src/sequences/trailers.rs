@@ -1,17 +1,20 @@
-//! Files that carry a trailer: left by edits, made up, or with something wrong in it.
+//! Files that carry a trailer, of the old form or of the long one: left by edits, made up, or with something wrong in it.
 
+use super::desks::{self, Desks};
 use super::requests;
-use crate::editor::{self, Trailer, CLOSING, NEXT_BYTES, SLOT_BYTES, TRAILER_SIZE};
+use crate::editor::{self, Form, Trailer, FORMS, NEXT_BYTES, SLOT_BYTES};
 use crate::images::accepted;
 use crate::random::Random;
 use crate::reader::{self, Directory, EXTENDED, FREE, MACHINE_TYPE, MOST_BYTES, UNSTORED};
 
-/// A file after a few edits.
+/// A file after a few edits, their trailers of one form or of both.
 pub fn edited(random: &mut Random, mut file: Vec<u8>) -> Vec<u8> {
+    let forms: &[Form] = random.pick(&[&[Form::Old], &[Form::Long], &FORMS, &FORMS]);
+    let mut desks = Desks::new(random);
     for _ in 0..random.between(1, 5) {
         let capacity = file.len() + 400;
-        let edit = requests::edit(random, &file, capacity, requests::ALL_KINDS);
-        if let Ok(change) = editor::change(&file, capacity as u64, &edit) {
+        let edit = requests::edit(random, &file, capacity, requests::ALL_KINDS, &mut desks);
+        if let Ok(change) = editor::change(&file, capacity as u64, &edit, random.pick(forms)) {
             file = change.made_of(&file);
         }
     }
@@ -32,10 +35,13 @@ pub fn made_up(random: &mut Random, mut file: Vec<u8>) -> Vec<u8> {
     };
     let mut image = file.clone();
     image[place..place + altered].copy_from_slice(&old[..altered]);
-    let previous = editor::previous(&image[..before]);
-    let previous = if random.once_in(5) { random.pick(&[0, before.saturating_sub(32) as u32]) } else { previous };
-    let (place, altered, before) = (place as u32, altered as u32, before as u32);
-    file.extend(Trailer { place, altered, old, before, previous }.bytes());
+    let form = random.pick(&FORMS);
+    let previous = match random.once_in(5) {
+        true => random.pick(&[0, before.saturating_sub(32), before.saturating_sub(36)]) as u32,
+        false => editor::previous(&image[..before], form),
+    };
+    let (place, altered, before, desk) = (place as u32, altered as u32, before as u32, desks::any(random));
+    file.extend(Trailer { form, place, altered, old, before, previous, desk }.bytes());
     file
 }
 
@@ -61,7 +67,7 @@ fn old_slot(random: &mut Random, directory: &Directory, file: &[u8], place: usiz
         0 => place,
         slots => directory.slots[random.below(slots)].place as usize,
     };
-    let (closing, unstored) = (u32::from_be_bytes(CLOSING) as usize, UNSTORED as usize);
+    let (closing, unstored) = (u32::from_be_bytes(random.pick(&FORMS).closing()) as usize, UNSTORED as usize);
     let bytes = match random.below(9) {
         0 | 1 => file[place..place + SLOT_BYTES].to_vec(),
         2 => editor::slot(FREE, 0, 0, 0),
@@ -90,55 +96,62 @@ fn old_next(random: &mut Random, directory: &Directory, file: &[u8], place: usiz
     old
 }
 
-/// The shortest file that can carry a trailer, at times a byte or two shorter.
+/// The shortest file that can carry a trailer, at times a few bytes shorter.
 pub fn shortest(random: &mut Random) -> Vec<u8> {
     let file = accepted::shortest();
-    let next = Trailer { place: 6, altered: 4, old: [0; SLOT_BYTES], before: file.len() as u32, previous: 0 };
-    let start = random.pick(&[0, 0, 1, 1, 2]);
+    let (form, before, desk) = (random.pick(&FORMS), file.len() as u32, desks::any(random));
+    let next = Trailer { form, place: 6, altered: 4, old: [0; SLOT_BYTES], before, previous: 0, desk };
+    let start = random.pick(&[0, 0, 0, 1, 1, 2, 4, 5]);
     [&file[..], &next.bytes()[start..]].concat()
 }
 
-/// Changes a field of the trailer, or how the file ends.
+/// Changes a field of the trailer or its form, or how the file ends.
 pub fn damaged(random: &mut Random, mut file: Vec<u8>) -> Vec<u8> {
-    if !editor::carries_trailer(&file) {
-        return file;
-    }
+    let Some(mut trailer) = Trailer::of(&file) else { return file };
     let n = file.len();
-    let mut trailer = Trailer::of(&file);
+    file.truncate(n - trailer.form.size());
     for _ in 0..random.pick(&[0, 1, 1, 1, 1, 1, 2]) {
         damage(random, &mut trailer, n as u32);
     }
-    let bytes = trailer.bytes();
     let start = if random.once_in(10) { random.between(1, 4) } else { 0 };
-    file.truncate(n - TRAILER_SIZE);
-    file.extend(&bytes[start..]);
-    match random.below(24) {
-        0 => file.truncate(n - start - 1),
-        1 => file.push(random.pick(&[0, 0x4b])),
-        2 => file[n - start - random.between(1, 4)] ^= 1 << random.below(8),
-        _ => {}
-    }
+    file.extend(&trailer.bytes()[start..]);
+    damage_end(random, &mut file);
     file
 }
 
+/// Changes at times how a file ends: fewer bytes or one more, another byte, or the closing ones of the other form.
+fn damage_end(random: &mut Random, file: &mut Vec<u8>) {
+    let n = file.len();
+    match random.below(32) {
+        0 => file.truncate(n - 1),
+        1 => file.truncate(n - 4),
+        2 => file.push(random.pick(&[0, 0x32, 0x4b])),
+        3 => file[n - random.between(1, 4)] ^= 1 << random.below(8),
+        4 | 5 => file[n - 4..].copy_from_slice(&random.pick(&FORMS).closing()),
+        _ => {}
+    }
+}
+
 fn damage(random: &mut Random, trailer: &mut Trailer, n: u32) {
-    match random.below(10) {
-        0 => trailer.before = length_too_large(random, n),
+    match random.below(12) {
+        0 => trailer.before = length_too_large(random, n, trailer.form),
         1 => trailer.before = random.below(n as usize) as u32,
         2 => trailer.place = beside(random, trailer.place),
         3 => trailer.place = random.pick(&[0, 4, 6, 10, 22, trailer.before, n, u32::MAX]),
         4 => trailer.altered = other_count(random),
         5 => trailer.old[NEXT_BYTES + random.below(8)] ^= 1 << random.below(8),
         6 | 7 => trailer.previous = other_previous(random, trailer, n),
-        8 => trailer.old[NEXT_BYTES + random.pick(&[0, 0, 0, 1])..].fill(0xff),
+        8 => trailer.desk = desks::any(random),
+        9 => trailer.form = random.pick(&FORMS),
+        10 => trailer.old[NEXT_BYTES + random.pick(&[0, 0, 0, 1])..].fill(0xff),
         _ => trailer.old[..2].copy_from_slice(&random.pick(&[[0, 0], [0x40, 0], [0x40, 1], [0, 107], [2, 0xd0]])),
     }
 }
 
 /// A length before that reaches into the trailer or past the file.
-fn length_too_large(random: &mut Random, n: u32) -> u32 {
-    let within = n - random.below(TRAILER_SIZE) as u32;
-    random.pick(&[n - 31, within, within, n, n + 1, MOST_BYTES as u32, 1 << 31, u32::MAX])
+fn length_too_large(random: &mut Random, n: u32, form: Form) -> u32 {
+    let (least, within) = (n + 1 - form.size() as u32, n - random.below(form.size()) as u32);
+    random.pick(&[least, within, within, n, n + 1, MOST_BYTES as u32, 1 << 31, u32::MAX])
 }
 
 fn beside(random: &mut Random, place: u32) -> u32 {
@@ -152,6 +165,6 @@ fn other_count(random: &mut Random) -> u32 {
 
 fn other_previous(random: &mut Random, trailer: &Trailer, n: u32) -> u32 {
     let Trailer { before, previous, .. } = *trailer;
-    let start = before.wrapping_sub(TRAILER_SIZE as u32);
-    random.pick(&[0, start, start, before, n - 32, previous ^ 1, previous ^ (1 << 31), u32::MAX])
+    let [old, long] = FORMS.map(|form| before.wrapping_sub(form.size() as u32));
+    random.pick(&[0, old, long, before, n - 32, previous ^ 1, previous ^ (1 << 31), u32::MAX])
 }

@@ -15,8 +15,9 @@
 //!
 //! The image is the first `n` bytes of a lent buffer; an `n` over the buffer's length is refused. The new image stands at the
 //! front of the buffer, and the bytes behind its end stay as they were. An edit changes one descriptor, or links one new block,
-//! and appends the data and a trailer that says how to undo it: the image grows by the data and at most [`EDIT_ROOM`] bytes more.
-//! The data may not lie in the buffer. The tag is not 0, 1 or 107, and not of the extended form, 16384 to 32767.
+//! and appends the data and a trailer that says how to undo it and which desk made it: the image grows by the data and at most
+//! [`EDIT_ROOM`] bytes more. The data may not lie in the buffer. The tag is not 0, 1 or 107, and not of the extended form, 16384
+//! to 32767. The desk is any number: who edits a file alone names 0.
 //!
 //! # Records
 //!
@@ -35,7 +36,7 @@
 use std::fmt::Debug;
 
 /// The version of the library.
-pub const VERSION: &str = "0.2.3";
+pub const VERSION: &str = "0.3.0";
 
 /// The most bytes that an image has.
 pub const MOST_BYTES: usize = 2_147_483_647;
@@ -44,7 +45,7 @@ pub const MOST_BYTES: usize = 2_147_483_647;
 pub const MOST_ELEMENTS: usize = 4096;
 
 /// The most bytes by which an edit makes an image longer, besides its data: a block of descriptors and a trailer.
-pub const EDIT_ROOM: usize = 230;
+pub const EDIT_ROOM: usize = 234;
 
 /// The most fields that a Vdata has.
 pub const MOST_FIELDS: usize = 256;
@@ -152,8 +153,11 @@ pub const TABLE_LOOP: u64 = 27;
 /// The element is named and not stored yet: offset and length of its slot are 4294967295.
 pub const NOT_STORED: u64 = 29;
 
+/// The trailer of the newest edit is another desk's; the place is the trailer's.
+pub const OTHER_DESK: u64 = 30;
+
 /// The number and the name of each refusal and what it says, in words for a person.
-pub const REFUSALS: [(u64, &str, &str); 28] = [
+pub const REFUSALS: [(u64, &str, &str); 29] = [
     (TOO_LONG, "TOO_LONG", "the file is too long"),
     (NOT_HDF, "NOT_HDF", "this is no HDF4 file"),
     (DIR_CUT, "DIR_CUT", "a block of descriptors is not wholly inside the file"),
@@ -182,6 +186,7 @@ pub const REFUSALS: [(u64, &str, &str); 28] = [
     (SHORT_BLOCK, "SHORT_BLOCK", "a linked block of the element is too short"),
     (TABLE_LOOP, "TABLE_LOOP", "the tables of the element's linked blocks repeat or run past 256"),
     (NOT_STORED, "NOT_STORED", "the element is named in the directory and not stored yet"),
+    (OTHER_DESK, "OTHER_DESK", "the newest edit is another desk's"),
 ];
 
 /// What all answers have in common.
@@ -586,6 +591,7 @@ extern "C" {
         buffer: *mut u8,
         capacity: usize,
         n: u64,
+        desk: u32,
         tag: u16,
         reference: u16,
         data: *const u8,
@@ -596,15 +602,16 @@ extern "C" {
         buffer: *mut u8,
         capacity: usize,
         n: u64,
+        desk: u32,
         tag: u16,
         reference: u16,
         data: *const u8,
         size: usize,
     ) -> EditAnswer;
     /// What [`remove`] calls.
-    pub fn hdf4_remove(buffer: *mut u8, capacity: usize, n: u64, tag: u16, reference: u16) -> EditAnswer;
+    pub fn hdf4_remove(buffer: *mut u8, capacity: usize, n: u64, desk: u32, tag: u16, reference: u16) -> EditAnswer;
     /// What [`undo`] calls.
-    pub fn hdf4_undo(buffer: *mut u8, capacity: usize, n: u64) -> EditAnswer;
+    pub fn hdf4_undo(buffer: *mut u8, capacity: usize, n: u64, desk: u32) -> EditAnswer;
     /// What [`read_number_type`] calls.
     pub fn hdf4_read_number_type(image: *const u8, n: usize, reference: u16) -> NumberTypeAnswer;
     /// What [`pack_number_type`] calls.
@@ -751,26 +758,29 @@ pub fn choose(current: &[u8], fallback: &[u8], tag: u16, reference: u16) -> Choo
 
 /// Adds an element with its data, in the first free slot or in a new block.
 #[inline]
-pub fn add(buffer: &mut [u8], n: u64, tag: u16, reference: u16, data: &[u8]) -> EditAnswer {
-    unsafe { hdf4_add(buffer.as_mut_ptr(), buffer.len(), n, tag, reference, data.as_ptr(), data.len()) }
+pub fn add(buffer: &mut [u8], n: u64, desk: u32, tag: u16, reference: u16, data: &[u8]) -> EditAnswer {
+    unsafe { hdf4_add(buffer.as_mut_ptr(), buffer.len(), n, desk, tag, reference, data.as_ptr(), data.len()) }
 }
 
 /// Gives an element other data.
 #[inline]
-pub fn replace(buffer: &mut [u8], n: u64, tag: u16, reference: u16, data: &[u8]) -> EditAnswer {
-    unsafe { hdf4_replace(buffer.as_mut_ptr(), buffer.len(), n, tag, reference, data.as_ptr(), data.len()) }
+pub fn replace(buffer: &mut [u8], n: u64, desk: u32, tag: u16, reference: u16, data: &[u8]) -> EditAnswer {
+    unsafe { hdf4_replace(buffer.as_mut_ptr(), buffer.len(), n, desk, tag, reference, data.as_ptr(), data.len()) }
 }
 
 /// Removes an element.
 #[inline]
-pub fn remove(buffer: &mut [u8], n: u64, tag: u16, reference: u16) -> EditAnswer {
-    unsafe { hdf4_remove(buffer.as_mut_ptr(), buffer.len(), n, tag, reference) }
+pub fn remove(buffer: &mut [u8], n: u64, desk: u32, tag: u16, reference: u16) -> EditAnswer {
+    unsafe { hdf4_remove(buffer.as_mut_ptr(), buffer.len(), n, desk, tag, reference) }
 }
 
-/// Undoes the last edit that is not undone yet: the image is as before it, byte for byte.
+/// Undoes the newest edit that the image carries, for the desk that made it: the image is as before the edit, byte for byte.
+/// Another desk is refused with [`OTHER_DESK`], at the place of the edit's trailer. The trailer ends the image. If it has 36
+/// bytes, the four before its last four are the desk, most significant byte first; if it has 32, it is from before trailers named
+/// a desk, and desk 0's.
 #[inline]
-pub fn undo(buffer: &mut [u8], n: u64) -> EditAnswer {
-    unsafe { hdf4_undo(buffer.as_mut_ptr(), buffer.len(), n) }
+pub fn undo(buffer: &mut [u8], n: u64, desk: u32) -> EditAnswer {
+    unsafe { hdf4_undo(buffer.as_mut_ptr(), buffer.len(), n, desk) }
 }
 
 /// Reads a number type, tag 106: four bytes of any values.

@@ -15,7 +15,7 @@ same-length : tie.Need-same-length
 same-length c = search needs
 
 returns : tie.Need-returns
-returns c = let d = c .before .before .before .add .ensures in Lent.retold d (c .edit-answer .ensures _ (Proper.add-proper _ _ _ _ _) (d .answers))
+returns c = let d = c .before .before .before .add .ensures in Lent.retold d (c .edit-answer .ensures _ (Proper.add-proper _ _ _ _ _ _) (d .answers))
 
 pub hdf4-add-spec : {M : Type 1} → statement M
 hdf4-add-spec = tie.close (tie.spec add-requires edit-answer-requires same-length returns)

@@ -15,7 +15,7 @@ same-length : tie.Need-same-length
 same-length c = search needs
 
 returns : tie.Need-returns
-returns c = let d = c .before .before .before .remove .ensures in Lent.retold d (c .edit-answer .ensures _ (Proper.remove-proper _ _ _ _) (d .answers))
+returns c = let d = c .before .before .before .remove .ensures in Lent.retold d (c .edit-answer .ensures _ (Proper.remove-proper _ _ _ _ _) (d .answers))
 
 pub hdf4-remove-spec : {M : Type 1} → statement M
 hdf4-remove-spec = tie.close (tie.spec remove-requires edit-answer-requires same-length returns)

@@ -15,7 +15,7 @@ same-length : tie.Need-same-length
 same-length c = search needs
 
 returns : tie.Need-returns
-returns c = let d = c .before .before .before .replace .ensures in Lent.retold d (c .edit-answer .ensures _ (Proper.replace-proper _ _ _ _ _) (d .answers))
+returns c = let d = c .before .before .before .replace .ensures in Lent.retold d (c .edit-answer .ensures _ (Proper.replace-proper _ _ _ _ _ _) (d .answers))
 
 pub hdf4-replace-spec : {M : Type 1} → statement M
 hdf4-replace-spec = tie.close (tie.spec replace-requires edit-answer-requires same-length returns)

@@ -15,7 +15,7 @@ same-length : tie.Need-same-length
 same-length c = search needs
 
 returns : tie.Need-returns
-returns c = let d = c .before .before .before .undo .ensures in Lent.retold d (c .edit-answer .ensures _ (Proper.undo-proper _ _) (d .answers))
+returns c = let d = c .before .before .before .undo .ensures in Lent.retold d (c .edit-answer .ensures _ (Proper.undo-proper _ _ _) (d .answers))
 
 pub hdf4-undo-spec : {M : Type 1} → statement M
 hdf4-undo-spec = tie.close (tie.spec undo-requires edit-answer-requires same-length returns)

@@ -38,7 +38,7 @@ same-length-2 c = search needs
 returns-2 : tie.Need-returns-2
 returns-2 c =
     let t = subst (Targets _ _ _ _) (c .enum-told .given .1) (c .before .before .meet .ensures) in
-    Buffers.add-present _ _ _ (t .0) _ _ (t .1) _
+    Buffers.add-present _ _ _ _ (t .0) _ _ (t .1) _
 
 same-length-3 : tie.Need-same-length-3
 same-length-3 c = search needs
@@ -46,7 +46,7 @@ same-length-3 c = search needs
 returns-3 : tie.Need-returns-3
 returns-3 c =
     let t = subst (Targets _ _ _ _) (c .before .before .before .before .before .met2 .given .1) (c .before .before .before .before .before .before .before .meet .ensures) in
-    Buffers.add-absent _ _ _ (t .0) _ (t .1) _ _ (c .before .before .put-new .result) (c .before .before .put-new .ensures)
+    Buffers.add-absent _ _ _ _ (t .0) _ (t .1) _ _ (c .before .before .put-new .result) (c .before .before .put-new .ensures)
 
 pub add-spec : {M : Type 1} → statement M
 add-spec =

@@ -21,7 +21,7 @@ fit-fault-requires : tie.Need-fit-fault-requires
 fit-fault-requires c κs = search needs
 
 returns : tie.Need-returns
-returns c = Laid.block-refused _ _ _ (c .before .before .before .before .pre .1) (c .before .before .before .before .pre .2) _ _ _ _ (c .before .fit-fault .ensures) (c .if1 .taken)
+returns c = Laid.block-refused _ _ _ (c .before .before .before .before .pre .1) (c .before .before .before .before .pre .2) _ _ _ _ _ (c .before .fit-fault .ensures) (c .if1 .taken)
 
 slice-reshare-prefix-change-at : tie.Need-slice-reshare-prefix-change-at
 slice-reshare-prefix-change-at c = search needs
@@ -53,15 +53,15 @@ add-write32 c = search needs
 write32-requires : tie.Need-write32-requires
 write32-requires c κs = search needs
 
-add-t20 : tie.Need-add-t20
-add-t20 c = omega (arith, Outcomes.fits _ _ (sym (c .before .before .before .before .before .before .before .before .before .before .before .before .before .before .before .before .before .before .before .before .fit-fault .ensures) ∙ c .before .before .before .before .before .before .before .before .before .before .before .before .before .before .before .before .before .before .before .if1 .left))
+add-t21 : tie.Need-add-t21
+add-t21 c = omega (arith, Outcomes.fits _ _ (sym (c .before .before .before .before .before .before .before .before .before .before .before .before .before .before .before .before .before .before .before .before .fit-fault .ensures) ∙ c .before .before .before .before .before .before .before .before .before .before .before .before .before .before .before .before .before .before .before .if1 .left))
 
 same-length : tie.Need-same-length
 same-length c = search needs
 
 returns-2 : tie.Need-returns-2
 returns-2 c =
-    Laid.block-granted _ _ _ (c .before .before .before .before .before .before .before .before .before .before .before .before .before .before .before .before .before .before .before .before .before .before .before .pre .1) (c .before .before .before .before .before .before .before .before .before .before .before .before .before .before .before .before .before .before .before .before .before .before .before .pre .2) _ _ _ _ _
+    Laid.block-granted _ _ _ (c .before .before .before .before .before .before .before .before .before .before .before .before .before .before .before .before .before .before .before .before .before .before .before .pre .1) (c .before .before .before .before .before .before .before .before .before .before .before .before .before .before .before .before .before .before .before .before .before .before .before .pre .2) _ _ _ _ _ _
     (sym (c .before .before .before .before .before .before .before .before .before .before .before .before .before .before .before .before .before .before .before .before .fit-fault .ensures) ∙ c .before .before .before .before .before .before .before .before .before .before .before .before .before .before .before .before .before .before .before .if1 .left)
     (c .before .before .before .before .before .before .before .before .before .before .before .before .before .before .before .before .before .change-at .ensures) (c .before .before .before .before .before .before .before .before .before .before .before .before .before .before .before .offset-of .ensures) (c .before .before .before .before .before .before .before .before .before .before .before .before .before .before .write-block .ensures)
     (c .before .before .before .before .before .before .before .before .before .before .write-bytes .ensures) (c .before .before .before .before .before .before .write-trailer .ensures) (c .before .before .write32 .ensures)
@@ -85,6 +85,6 @@ put-block-spec =
     write-trailer-requires
     add-write32
     write32-requires
-    add-t20
+    add-t21
     same-length
     returns-2)

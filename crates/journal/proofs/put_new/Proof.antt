@@ -29,7 +29,7 @@ same-length : tie.Need-same-length
 same-length c = search needs
 
 returns : tie.Need-returns
-returns c = Adding.add-blocks _ _ _ _ _ (c .before .before .before .before .before .before .before .before .before .pre .0) (c .before .before .before .before .before .before .before .before .before .pre .1) _ (sym (c .before .before .before .before .before .find-room .ensures) ∙ c .before .before .before .room2 .given .1) _ _ _ (c .if1 .taken)
+returns c = Adding.add-blocks _ _ _ _ _ (c .before .before .before .before .before .before .before .before .before .pre .0) (c .before .before .before .before .before .before .before .before .before .pre .1) _ (sym (c .before .before .before .before .before .find-room .ensures) ∙ c .before .before .before .room2 .given .1) _ _ _ _ (c .if1 .taken)
 
 add-if2 : tie.Need-add-if2
 add-if2 c = omega (arith, Adding.slots-few _ _ _ _ _ (c .before .before .before .before .before .before .before .before .before .before .pre .0) (c .before .before .before .before .before .before .before .before .before .before .pre .1))
@@ -38,7 +38,7 @@ same-length-2 : tie.Need-same-length-2
 same-length-2 c = search needs
 
 returns-2 : tie.Need-returns-2
-returns-2 c = Adding.add-slots _ _ _ _ _ (c .before .before .before .before .before .before .before .before .before .before .before .pre .0) (c .before .before .before .before .before .before .before .before .before .before .before .pre .1) _ (sym (c .before .before .before .before .before .before .before .find-room .ensures) ∙ c .before .before .before .before .before .room2 .given .1) _ _ _ (c .if2 .taken)
+returns-2 c = Adding.add-slots _ _ _ _ _ (c .before .before .before .before .before .before .before .before .before .before .before .pre .0) (c .before .before .before .before .before .before .before .before .before .before .before .pre .1) _ (sym (c .before .before .before .before .before .before .before .find-room .ensures) ∙ c .before .before .before .before .before .room2 .given .1) _ _ _ _ (c .if2 .taken)
 
 put-block-requires : tie.Need-put-block-requires
 put-block-requires c κs = Adding.last-room _ _ _ _ _ (c .before .before .before .before .before .before .before .before .before .before .before .before .pre .0) (c .before .before .before .before .before .before .before .before .before .before .before .before .pre .1) _ (sym (c .before .before .before .before .before .before .before .before .find-room .ensures) ∙ c .before .before .before .before .before .before .room2 .given .1)
@@ -48,7 +48,7 @@ same-length-3 c = search needs
 
 returns-3 : tie.Need-returns-3
 returns-3 c =
-    Adding.add-slot _ _ _ _ _ (c .before .before .before .before .before .before .before .before .before .before .before .pre .0) (c .before .before .before .before .before .before .before .before .before .before .before .pre .1) _ (sym (c .before .before .before .before .before .before .before .find-room .ensures) ∙ c .before .before .before .before .before .room .given .1) _ _ _ _
+    Adding.add-slot _ _ _ _ _ (c .before .before .before .before .before .before .before .before .before .before .before .pre .0) (c .before .before .before .before .before .before .before .before .before .before .before .pre .1) _ (sym (c .before .before .before .before .before .before .before .find-room .ensures) ∙ c .before .before .before .before .before .room .given .1) _ _ _ _ _
     (c .before .before .put-slot .result) (c .before .before .put-slot .ensures)
 
 same-length-4 : tie.Need-same-length-4
@@ -56,7 +56,7 @@ same-length-4 c = search needs
 
 returns-4 : tie.Need-returns-4
 returns-4 c =
-    Adding.add-block _ _ _ _ _ (c .before .before .before .before .before .before .before .before .before .before .before .before .before .before .before .pre .0) (c .before .before .before .before .before .before .before .before .before .before .before .before .before .before .before .pre .1) _ (sym (c .before .before .before .before .before .before .before .before .before .before .before .find-room .ensures) ∙ c .before .before .before .before .before .before .before .before .before .room2 .given .1) _ _ _
+    Adding.add-block _ _ _ _ _ (c .before .before .before .before .before .before .before .before .before .before .before .before .before .before .before .pre .0) (c .before .before .before .before .before .before .before .before .before .before .before .before .before .before .before .pre .1) _ (sym (c .before .before .before .before .before .before .before .before .before .before .before .find-room .ensures) ∙ c .before .before .before .before .before .before .before .before .before .room2 .given .1) _ _ _ _
     (c .before .before .before .before .before .before .if1 .left) (c .before .before .before .before .if2 .left) _ (c .before .before .put-block .result) (c .before .before .put-block .ensures)
 
 pub put-new-spec : {M : Type 1} → statement M

@@ -18,7 +18,7 @@ fit-fault-requires : tie.Need-fit-fault-requires
 fit-fault-requires c κs = search needs
 
 returns : tie.Need-returns
-returns c = Laid.slot-refused _ _ _ (c .before .before .before .before .pre .1) (c .before .before .before .before .pre .2) _ _ _ _ (c .before .fit-fault .ensures) (c .if1 .taken)
+returns c = Laid.slot-refused _ _ _ (c .before .before .before .before .pre .1) (c .before .before .before .before .pre .2) _ _ _ _ _ (c .before .fit-fault .ensures) (c .if1 .taken)
 
 slice-reshare-prefix-change-at : tie.Need-slice-reshare-prefix-change-at
 slice-reshare-prefix-change-at c = search needs
@@ -41,15 +41,15 @@ offset-of-requires c κs = search needs
 write-slot-requires : tie.Need-write-slot-requires
 write-slot-requires c κs = search needs
 
-add-t10 : tie.Need-add-t10
-add-t10 c = omega (arith, Outcomes.fits _ _ (sym (c .before .before .before .before .before .before .before .before .before .before .before .before .before .before .before .before .fit-fault .ensures) ∙ c .before .before .before .before .before .before .before .before .before .before .before .before .before .before .before .if1 .left))
+add-t11 : tie.Need-add-t11
+add-t11 c = omega (arith, Outcomes.fits _ _ (sym (c .before .before .before .before .before .before .before .before .before .before .before .before .before .before .before .before .fit-fault .ensures) ∙ c .before .before .before .before .before .before .before .before .before .before .before .before .before .before .before .if1 .left))
 
 same-length : tie.Need-same-length
 same-length c = search needs
 
 returns-2 : tie.Need-returns-2
 returns-2 c =
-    Laid.slot-granted _ _ _ (c .before .before .before .before .before .before .before .before .before .before .before .before .before .before .before .before .before .before .before .pre .1) (c .before .before .before .before .before .before .before .before .before .before .before .before .before .before .before .before .before .before .before .pre .2) _ _ _ _ _
+    Laid.slot-granted _ _ _ (c .before .before .before .before .before .before .before .before .before .before .before .before .before .before .before .before .before .before .before .pre .1) (c .before .before .before .before .before .before .before .before .before .before .before .before .before .before .before .before .before .before .before .pre .2) _ _ _ _ _ _
     (sym (c .before .before .before .before .before .before .before .before .before .before .before .before .before .before .before .before .fit-fault .ensures) ∙ c .before .before .before .before .before .before .before .before .before .before .before .before .before .before .before .if1 .left)
     (c .before .before .before .before .before .before .before .before .before .before .before .before .before .change-at .ensures) (c .before .before .before .offset-of .ensures) (c .before .before .before .before .before .before .before .before .before .before .before .write-bytes .ensures)
     (c .before .before .before .before .before .before .before .write-trailer .ensures) (c .before .before .write-slot .ensures)
@@ -69,6 +69,6 @@ put-slot-spec =
     write-trailer-requires
     offset-of-requires
     write-slot-requires
-    add-t10
+    add-t11
     same-length
     returns-2)

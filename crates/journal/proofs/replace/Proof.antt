@@ -39,7 +39,7 @@ same-length-2 c = search needs
 returns-2 : tie.Need-returns-2
 returns-2 c =
     let t = subst (Targets _ _ _ _) (c .before .before .before .before .before .met2 .given .1) (c .before .before .before .before .before .before .before .meet .ensures) in
-    Buffers.replace-there _ _ _ (t .0) _ _ (t .1) _ _ (c .before .before .put-slot .result) (c .before .before .put-slot .ensures)
+    Buffers.replace-there _ _ _ _ (t .0) _ _ (t .1) _ _ (c .before .before .put-slot .result) (c .before .before .put-slot .ensures)
 
 same-length-3 : tie.Need-same-length-3
 same-length-3 c = search needs
@@ -47,7 +47,7 @@ same-length-3 c = search needs
 returns-3 : tie.Need-returns-3
 returns-3 c =
     let t = subst (Targets _ _ _ _) (c .enum-told .given .1) (c .before .before .meet .ensures) in
-    Buffers.replace-absent _ _ _ (t .0) _ (t .1) _
+    Buffers.replace-absent _ _ _ _ (t .0) _ (t .1) _
 
 pub replace-spec : {M : Type 1} → statement M
 replace-spec =

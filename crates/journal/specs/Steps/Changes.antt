@@ -9,6 +9,7 @@ use Rattle.answer.specs.Search.{hit, miss}
 use Rattle.directory.specs.Opening.{openOf}
 use Rattle.directory.specs.Lookup.{find}
 use Rattle.journal.specs.Outcomes.{Outcome, refused, openedTo}
+use Rattle.journal.specs.Trailers.{named}
 use Rattle.journal.specs.Edits.{block-size, dataSlot, newBlock, slotEdit, blockEdit, fitted, badTag, tagged, firstFree, addAt}
 use Rattle.directory.specs.declared.Opened.{Opened}
 use Rattle.directory.specs.declared.Opened.the-variants.{Accepted, Refused as Closed}
@@ -34,14 +35,14 @@ Targets buffer n tag ref (Present p) = Editable buffer n tag × (find (take n bu
 Targets buffer n tag ref (Absent c) =
     Editable buffer n tag × (find (take n buffer) tag ref ≡ miss) × (openOf (take n buffer) ≡ grant (c .blocks ∷ c .slots ∷ c .live ∷ []))
 
--- in such a buffer: data behind it for the slot at p, a block behind it linked from the one at b, and a slot
+-- in such a buffer, for a desk: data behind it for the slot at p, a block behind it linked from the one at b, and a slot
 -- for an element that is absent
-abbrev pub slotIn : List ℕ → ℕ → ℕ → ℕ → ℕ → List ℕ → Outcome
-slotIn buffer n p tag ref content = fitted (length buffer) (slotEdit (take n buffer) p (dataSlot tag ref content n) content)
+abbrev pub slotIn : List ℕ → ℕ → ℕ → ℕ → ℕ → ℕ → List ℕ → Outcome
+slotIn buffer n p desk tag ref content = fitted (length buffer) (slotEdit (take n buffer) (named desk) p (dataSlot tag ref content n) content)
 
-abbrev pub blockIn : List ℕ → ℕ → ℕ → ℕ → ℕ → List ℕ → Outcome
-blockIn buffer n b tag ref content =
-    fitted (length buffer) (blockEdit (take n buffer) b (newBlock (dataSlot tag ref content (n + block-size))) content)
+abbrev pub blockIn : List ℕ → ℕ → ℕ → ℕ → ℕ → ℕ → List ℕ → Outcome
+blockIn buffer n b desk tag ref content =
+    fitted (length buffer) (blockEdit (take n buffer) (named desk) b (newBlock (dataSlot tag ref content (n + block-size))) content)
 
-abbrev pub newIn : List ℕ → ℕ → ℕ → ℕ → List ℕ → Outcome
-newIn buffer n tag ref content = addAt (take n buffer) (length buffer) tag ref content (firstFree (take n buffer))
+abbrev pub newIn : List ℕ → ℕ → ℕ → ℕ → ℕ → List ℕ → Outcome
+newIn buffer n desk tag ref content = addAt (take n buffer) (length buffer) (named desk) tag ref content (firstFree (take n buffer))

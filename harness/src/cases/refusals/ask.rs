@@ -20,6 +20,8 @@ pub struct Ask {
     pub behind: usize,
     /// The length that an edit is given, where it is not the file's.
     pub n: Option<u64>,
+    /// The desk of an edit or an undo.
+    pub desk: u32,
     pub tag: u16,
     pub reference: u16,
     /// Record, field and component.
@@ -65,6 +67,7 @@ impl Ask {
             fallback: Image::default(),
             behind: 0,
             n: None,
+            desk: 0,
             tag: 0,
             reference: 0,
             indices: [0; 3],
@@ -91,15 +94,16 @@ impl Ask {
 
     /// The edit or undo, where the call is one.
     pub fn request(&self) -> Option<Request> {
+        let desk = self.desk;
         let kind = match self.call {
             Call::Add => Kind::Add,
             Call::Replace => Kind::Replace,
             Call::Remove => Kind::Remove,
-            Call::Undo => return Some(Request::Undo),
+            Call::Undo => return Some(Request::Undo { desk }),
             _ => return None,
         };
         let (tag, reference, data) = (self.tag, self.reference, self.data.bytes());
-        Some(Request::Edit(Edit { kind, tag, reference, data }))
+        Some(Request::Edit(Edit { desk, kind, tag, reference, data }))
     }
 
     pub fn dimension(&mut self) -> &mut Dimension {

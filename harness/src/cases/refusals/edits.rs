@@ -1,8 +1,10 @@
 //! Add, replace and remove.
 
 use super::ask::{Ask, Written};
+use super::list::number_of;
 use super::{fault, granted, over, with, Case, Fault, TOO_MANY_BYTES};
-use crate::cases::pieces::{block, image, slot, trailer, unstored, Image, FREE_SLOT};
+use crate::cases::edits::DESK;
+use crate::cases::pieces::{block, change, image, long_trailer, slot, unstored, Image, FREE_SLOT};
 use crate::tally::Call;
 
 /// The greatest length of a file.
@@ -49,14 +51,14 @@ const TOO_LONG: [Fault; 1] = [fault("1 edit", "a file of the greatest length", [
 
 /// The new length is one above the greatest, and the buffer is short.
 const LONG_DATA: [Fault; 1] =
-    [fault("1 edit", "data one byte too long", [1, 0], |ask| ask.data.lengthen(MOST - 37 - 32 + 1))];
+    [fault("1 edit", "data one byte too long", [1, 0], |ask| ask.data.lengthen(MOST - 37 - 36 + 1))];
 
 const LONGEST_DATA: [Fault; 1] =
-    [fault("19", "data for a file of the greatest length", [19, 0], |ask| ask.data.lengthen(MOST - 37 - 32))];
+    [fault("19", "data for a file of the greatest length", [19, 0], |ask| ask.data.lengthen(MOST - 37 - 36))];
 
-const NO_ROOM: [Fault; 1] = [fault("19", "one byte too short a buffer", [19, 0], |ask| ask.behind = 32)];
+const NO_ROOM: [Fault; 1] = [fault("19", "one byte too short a buffer", [19, 0], |ask| ask.behind = 36)];
 
-const NO_ROOM_TO_REMOVE: [Fault; 1] = [fault("19", "one byte too short a buffer", [19, 0], |ask| ask.behind = 31)];
+const NO_ROOM_TO_REMOVE: [Fault; 1] = [fault("19", "one byte too short a buffer", [19, 0], |ask| ask.behind = 35)];
 
 const PAST_BUFFER: [Fault; 1] = [fault("1 buffer", "a length past the buffer", [1, 0], |ask| {
     ask.n = Some(ask.capacity() as u64 + 1);
@@ -72,7 +74,7 @@ pub fn cases() -> Vec<Case> {
 /// The cases, and those of one call with a length past the buffer or past the limit. A file that ends with a trailer is not made
 /// longer.
 pub fn with_lengths(cases: Vec<Case>) -> Vec<Case> {
-    let ends_with_trailer = |case: &&Case| case.steps[0].rule.starts_with("21");
+    let ends_with_trailer = |case: &&Case| ["21", "30"].contains(&number_of(case.steps[0].rule));
     let others: Vec<Case> = cases.iter().filter(|case| !ends_with_trailer(case)).cloned().collect();
     [over(&PAST_LIMIT, &others), with(&PAST_BUFFER, cases)].concat()
 }
@@ -81,7 +83,7 @@ pub fn with_lengths(cases: Vec<Case>) -> Vec<Case> {
 fn adds() -> Vec<Case> {
     let add = |of, slot| {
         let (file, new) = (one_free_with(slot), one_added(slot));
-        granted(of, edit(Call::Add, (40000, 5), file), &[70], Written::bytes(&new))
+        granted(of, edit(Call::Add, (40000, 5), file), &[74], Written::bytes(&new))
     };
     let added = [add("an element", PLAIN_100)];
     let (full, long) = (over(&FULL, &added), over(&TOO_LONG, &added));
@@ -103,6 +105,7 @@ fn adds() -> Vec<Case> {
         later,
         added.into(),
         last_blocks(),
+        behind_what_ends_like_a_trailer(),
     ]
     .concat()
 }
@@ -111,7 +114,7 @@ fn adds() -> Vec<Case> {
 fn replacements() -> Vec<Case> {
     let replace = |of, old| {
         let ask = edit(Call::Replace, (100, 1), one_free_with(old));
-        granted(of, ask, &[70], Written::bytes(&replaced(old)))
+        granted(of, ask, &[74], Written::bytes(&replaced(old)))
     };
     let room = over(&LONGEST_DATA, &[replace("an element", PLAIN_100)]);
     let data = [over(&LONG_DATA, &room), over(&BAD_TAG[..1], &room), over(&ABSENT, &room), room];
@@ -121,7 +124,7 @@ fn replacements() -> Vec<Case> {
 fn removals() -> Vec<Case> {
     let remove = |of, old| {
         let ask = Ask { data: Image::default(), ..edit(Call::Remove, (100, 1), one_free_with(old)) };
-        granted(of, ask, &[69], Written::bytes(&removed(old)))
+        granted(of, ask, &[73], Written::bytes(&removed(old)))
     };
     changes(remove, &NO_ROOM_TO_REMOVE)
 }
@@ -156,14 +159,39 @@ fn last_blocks() -> Vec<Case> {
     let with_slots = [&slots(4080, 48970)[..], &new_block(49168), &[0x2a], &last_slots].concat();
     let add = |file| edit(Call::Add, (40000, 5), file);
     vec![
-        granted("a 256th block", add(blocks(255, 0)), &[1777], Written::bytes(&with_block)),
-        granted("the last 16 slots", add(slots(4080, 0)), &[49201], Written::bytes(&with_slots)),
+        granted("a 256th block", add(blocks(255, 0)), &[1781], Written::bytes(&with_block)),
+        granted("the last 16 slots", add(slots(4080, 0)), &[49205], Written::bytes(&with_slots)),
+    ]
+}
+
+/// Adds to files that end like a trailer, just long enough for one or too short: what the new one names as the previous one.
+fn behind_what_ends_like_a_trailer() -> Vec<Case> {
+    let add = |of, end: &[u8], previous| {
+        let file = two_slots([FREE_SLOT, PLAIN_100], &[end]);
+        let n = file.len() as u32;
+        let appended = [end, &[0x2a], &trailer(10, 12, FREE_SLOT, n, previous)].concat();
+        let new = two_slots([slot(40000, 5, n, 1), PLAIN_100], &[&appended]);
+        granted(of, edit(Call::Add, (40000, 5), file), &[u64::from(n) + 37], Written::bytes(&new))
+    };
+    vec![
+        add("an element behind 45 bytes like a long trailer", b"----BAC2", 0),
+        add("an element behind 46 bytes like a long trailer", b"-----BAC2", 10),
+        add("an element behind 42 bytes like a long trailer", b"-BAC2", 0),
+        add("an element behind 41 bytes like an old trailer", b"BACK", 0),
+        add("an element behind 42 bytes like an old trailer", b"-BACK", 10),
+        add("an element behind 46 bytes like an old trailer", b"-----BACK", 14),
     ]
 }
 
 /// An edit with one byte of data, and room for it.
 fn edit(call: Call, (tag, reference): (u16, u16), file: Vec<u8>) -> Ask {
-    Ask { tag, reference, data: Image::from(vec![0x2a]), behind: 300, ..Ask::on(call, Image::from(file)) }
+    let data = Image::from(vec![0x2a]);
+    Ask { desk: DESK, tag, reference, data, behind: 300, ..Ask::on(call, Image::from(file)) }
+}
+
+/// The trailer that it leaves.
+fn trailer(place: u32, altered: u32, old: [u8; 12], before: u32, previous: u32) -> Vec<u8> {
+    long_trailer(change(place, altered, old, before, previous), DESK)
 }
 
 /// A free slot and this slot of 100/1: 37 bytes.

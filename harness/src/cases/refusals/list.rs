@@ -1,21 +1,22 @@
 //! What must have a case, written down from the paper: for each call the rules that can refuse it, and of each two that one
 //! input can break the one that is judged first. A rule is named by its number and, where others have the same, by a word.
 
-use super::{name_of_call, Case, NO_RULE};
+use super::{name_of_call, Case, Variant, NO_RULE};
 use crate::tally::{Call, CALLS};
 use std::collections::BTreeSet;
 
 /// The last number that a call answers.
-const LAST_NUMBER: u64 = 29;
+const LAST_NUMBER: u64 = 30;
 
 type Rules = &'static [&'static str];
 
 /// What must be shown of some calls: that they are granted; each rule alone; the rules ahead before those of opening and those
 /// behind, and those of opening before those behind; rules that are judged each before each of others; and further rules behind,
-/// in stages, those of each stage judged before those of all later ones. What is shown of a sparse record is listed apart.
+/// in stages, those of each stage judged before those of all later ones. What is shown of a sparse record, and of an old trailer, is
+/// listed apart.
 struct Must {
     calls: &'static [Call],
-    is_sparse: bool,
+    variant: Variant,
     ahead: Rules,
     opening: Rules,
     behind: Rules,
@@ -61,13 +62,13 @@ pub fn number_of(rule: &str) -> &str {
 }
 
 fn shown_by(case: &Case) -> Shown {
-    let call = name_of_call(case.steps[0].ask.call, case.is_sparse);
+    let call = name_of_call(case.steps[0].ask.call, case.variant);
     (call, case.steps.iter().map(|step| step.rule).collect())
 }
 
 impl Must {
     fn shown(&self) -> Vec<Shown> {
-        let Must { calls, is_sparse, ahead, opening, behind, order, stages } = *self;
+        let Must { calls, variant, ahead, opening, behind, order, stages } = *self;
         let behind = &[behind, &stages.concat()].concat();
         let alone = [&[NO_RULE], ahead, opening, behind].concat();
         let mut rules: Vec<Vec<&'static str>> = alone.into_iter().map(|rule| vec![rule]).collect();
@@ -78,14 +79,14 @@ impl Must {
         [ahead, opening].iter().for_each(|first| add(first, behind));
         stages.iter().enumerate().for_each(|(at, first)| add(first, &stages[at + 1..].concat()));
         let of = |call: &Call| {
-            let name = name_of_call(*call, is_sparse);
+            let name = name_of_call(*call, variant);
             rules.iter().map(move |rules| (name.clone(), rules.clone()))
         };
         calls.iter().flat_map(of).collect()
     }
 }
 
-const ALL: [Must; 31] = [
+const ALL: [Must; 33] = [
     OPEN,
     FIND,
     LIST,
@@ -103,6 +104,8 @@ const ALL: [Must; 31] = [
     REPLACE_REMOVE,
     UNDO,
     UNDO_TRAILER,
+    UNDO_OLD,
+    UNDO_OLD_TRAILER,
     NUMBER_TYPE,
     DIMENSION,
     ARRAY,
@@ -121,7 +124,7 @@ const ALL: [Must; 31] = [
 
 /// A call that reads an image.
 const fn reading(calls: &'static [Call], behind: Rules, order: &'static [(Rules, Rules)]) -> Must {
-    Must { calls, is_sparse: false, ahead: &["1"], opening: OPENING, behind, order, stages: &[] }
+    Must { calls, variant: Variant::Usual, ahead: &["1"], opening: OPENING, behind, order, stages: &[] }
 }
 
 /// A call on a buffer. The length that it is given may be past the buffer, or past the limit.
@@ -184,7 +187,7 @@ const BAD_RECORD: Rules = &["13 size", "13 first_len", "13 blk_len", "13 num_blk
 
 /// A sparse record has no first_len.
 const SIZE_SPARSE: Must = Must {
-    is_sparse: true,
+    variant: Variant::Sparse,
     order: &[(&["29"], &["13 cut"]), (&["13 cut"], &["12"])],
     stages: &[&["29"], &["12"], BAD_SPARSE_RECORD],
     ..reading(&[Call::Size], &["13 cut"], &[])
@@ -252,7 +255,7 @@ const COPY_FAR: Must =
 
 /// A sparse record has no first_len. A block of reference 0 is a hole, and a first block is never too short.
 const COPY_SPARSE: Must = Must {
-    is_sparse: true,
+    variant: Variant::Sparse,
     order: &[(&["29"], &["13 cut"]), (&["13 cut"], &["12"])],
     stages: &[
         &["29"],
@@ -278,7 +281,7 @@ const COPY_SPARSE: Must = Must {
 };
 
 const COPY_SPARSE_LONG: Must = Must {
-    is_sparse: true,
+    variant: Variant::Sparse,
     order: &[
         (&["23 zero", "23 absent", "23 unstored", "23 extended", "24"], &["27 257th"]),
         (&["25 absent", "25 unstored", "25 extended", "27 twice"], &["27 257th"]),
@@ -288,7 +291,7 @@ const COPY_SPARSE_LONG: Must = Must {
 };
 
 const COPY_SPARSE_FAR: Must =
-    Must { is_sparse: true, stages: &[&["14"], &["25 far absent"]], ..reading(&[Call::Copy], &[], &[]) };
+    Must { variant: Variant::Sparse, stages: &[&["14"], &["25 far absent"]], ..reading(&[Call::Copy], &[], &[]) };
 
 /// Today's file answers wherever it has the pair. One that neither file has is in no other trouble.
 const CHOOSE: Must = Must {
@@ -317,22 +320,13 @@ const REPLACE_REMOVE: Must = editing(
     &[(&["7 edit"], &["11", "1 edit", "19"]), (&["11"], &["1 edit", "19"]), (&["1 edit"], &["19"])],
 );
 
-/// Without a trailer there is none that breaks a rule.
+/// Without a trailer there is none that breaks a rule or is another desk's.
 const UNDO: Must = editing(&[Call::Undo], &["20"], &[]);
 
 /// Two rules of a trailer answer the same. A length before is not too long and too short at once. That a trailer meets a length
-/// past the limit takes a file with a trailer there, which no case holds.
+/// past the limit takes a file with a trailer there, which no case holds. The trailer is judged whole before its desk.
 const UNDO_TRAILER: Must = Must {
     ahead: &["1 buffer"],
-    behind: &[
-        "21 length before",
-        "21 past",
-        "21 bytes altered",
-        "21 place",
-        "21 padding",
-        "21 previous",
-        "21 restored",
-    ],
     order: &[
         (&["21 length before", "21 past"], &["21 bytes altered", "21 place", "21 padding"]),
         (&["21 length before", "21 past"], &["21 previous", "21 restored"]),
@@ -341,8 +335,17 @@ const UNDO_TRAILER: Must = Must {
         (&["21 padding"], &["21 previous", "21 restored"]),
         (&["21 previous"], &["21 restored"]),
     ],
+    stages: &[BAD_TRAILER, &["30"]],
     ..editing(&[Call::Undo], &[], &[])
 };
+
+const BAD_TRAILER: Rules =
+    &["21 length before", "21 past", "21 bytes altered", "21 place", "21 padding", "21 previous", "21 restored"];
+
+/// The same of a trailer of the old form, which is desk 0's.
+const UNDO_OLD: Must = Must { variant: Variant::OldTrailer, ..UNDO };
+
+const UNDO_OLD_TRAILER: Must = Must { variant: Variant::OldTrailer, ..UNDO_TRAILER };
 
 const NUMBER_TYPE: Must =
     Must { stages: &[&["29"], &["12"], &["15"]], ..reading(&[Call::ReadNumberType], &["11"], &[]) };

@@ -44,9 +44,11 @@ add-read32-6 c = search needs
 read32-requires-7 : tie.Need-read32-requires-7
 read32-requires-7 c κs = search needs
 
+desk-at-requires : tie.Need-desk-at-requires
+desk-at-requires c κs = search needs
+
 returns : tie.Need-returns
-returns c =
-    rw (c .before .before .before .before .before .before .read32 .ensures .is, c .before .before .before .before .before .read322 .ensures .is, c .before .before .before .before .read323 .ensures .is, c .before .before .before .read324 .ensures .is, c .before .before .read325 .ensures .is, c .before .read326 .ensures .is, c .read327 .ensures .is) (sym (Trailers.trailer-fields _ _))
+returns c = rw (c .before .before .before .before .before .before .before .read32 .ensures .is, c .before .before .before .before .before .before .read322 .ensures .is, c .before .before .before .before .before .read323 .ensures .is, c .before .before .before .before .read324 .ensures .is, c .before .before .before .read325 .ensures .is, c .before .before .read326 .ensures .is, c .before .read327 .ensures .is, c .desk-at .ensures) (sym (Trailers.trailer-fields _ _ _))
 
 pub read-trailer-spec : {M : Type 1} → statement M
 read-trailer-spec =
@@ -65,4 +67,5 @@ read-trailer-spec =
     read32-requires-6
     add-read32-6
     read32-requires-7
+    desk-at-requires
     returns)

@@ -49,11 +49,17 @@ add-write32-7 c = search needs
 write32-requires-8 : tie.Need-write32-requires-8
 write32-requires-8 c κs = search needs
 
+add-write32-8 : tie.Need-add-write32-8
+add-write32-8 c = search needs
+
+write32-requires-9 : tie.Need-write32-requires-9
+write32-requires-9 c κs = search needs
+
 same-length : tie.Need-same-length
 same-length c = search needs
 
 returns : tie.Need-returns
-returns c = Trailers.trailer-run _ _ _ (c .before .before .before .before .before .before .before .before .before .before .before .before .before .before .before .before .before .before .before .before .before .before .before .before .before .before .before .before .before .before .write32 .ensures) (c .before .before .before .before .before .before .before .before .before .before .before .before .before .before .before .before .before .before .before .before .before .before .before .before .before .before .write322 .ensures) (c .before .before .before .before .before .before .before .before .before .before .before .before .before .before .before .before .before .before .before .before .before .before .write323 .ensures) (c .before .before .before .before .before .before .before .before .before .before .before .before .before .before .before .before .before .before .write324 .ensures) (c .before .before .before .before .before .before .before .before .before .before .before .before .before .before .write325 .ensures) (c .before .before .before .before .before .before .before .before .before .before .write326 .ensures) (c .before .before .before .before .before .before .write327 .ensures) (c .before .before .write328 .ensures)
+returns c = Trailers.trailer-run _ _ _ (c .before .before .before .before .before .before .before .before .before .before .before .before .before .before .before .before .before .before .before .before .before .before .before .before .before .before .before .before .before .before .before .before .before .before .write32 .ensures) (c .before .before .before .before .before .before .before .before .before .before .before .before .before .before .before .before .before .before .before .before .before .before .before .before .before .before .before .before .before .before .write322 .ensures) (c .before .before .before .before .before .before .before .before .before .before .before .before .before .before .before .before .before .before .before .before .before .before .before .before .before .before .write323 .ensures) (c .before .before .before .before .before .before .before .before .before .before .before .before .before .before .before .before .before .before .before .before .before .before .write324 .ensures) (c .before .before .before .before .before .before .before .before .before .before .before .before .before .before .before .before .before .before .write325 .ensures) (c .before .before .before .before .before .before .before .before .before .before .before .before .before .before .write326 .ensures) (c .before .before .before .before .before .before .before .before .before .before .write327 .ensures) (c .before .before .before .before .before .before .write328 .ensures) (c .before .before .write329 .ensures)
 
 pub write-trailer-spec : {M : Type 1} → statement M
 write-trailer-spec =
@@ -74,5 +80,7 @@ write-trailer-spec =
     write32-requires-7
     add-write32-7
     write32-requires-8
+    add-write32-8
+    write32-requires-9
     same-length
     returns)
