@@ -51,7 +51,7 @@ module _ (buffer : List ℕ) (n : ℕ) (bytes : Bytes buffer) (inside : n ≤ le
   pub one-desk-cancels : (entry : Entry) (entries : List Entry) → h .made ≡ entry ∷ entries → outcome (undo desk) m ≡ granted (topOf (h .start) entries)
   unfolding decided below
   one-desk-cancels entry entries e =
-      let own : AllOwn desk (entry ∷ entries) = rw e at (own-all (length buffer) desk calls (started (take n buffer)) by tt) in
+      let own : AllOwn desk (entry ∷ entries) = rw e at (own-all desk (length buffer) calls (started (take n buffer)) by tt) in
       undo-step _ (length buffer) m h (reached buffer n bytes inside calls typed) desk .0
       ∙ rw e (for-own (entry .desk) desk _ _ (own .0))
 

@@ -25,7 +25,7 @@ abbrev pub AllOwn : ℕ → List Entry → Type 0
 AllOwn desk [] = Unit {0}
 AllOwn desk (entry ∷ entries) = (desk ≡ entry .desk) × AllOwn desk entries
 
-module _ (capacity desk : ℕ) where
+module _ (desk : ℕ) where
   pushed-own : (h : History) (d : ℕ) (o : Outcome) → desk ≡ d → AllOwn desk (h .made) → AllOwn desk (pushed h d o .made)
   unfolding pushed
   pushed-own h d (granted file) e own = (e, own)
@@ -37,15 +37,15 @@ module _ (capacity desk : ℕ) where
   popped-own h (granted file) (entry ∷ entries) all own = own .1
   popped-own h (refused number place) made all own = all
 
-  own-after : (c : Call) (h : History) → deskNamedBy c ≡ desk → AllOwn desk (h .made) → AllOwn desk (historyAfter capacity c h .made)
+  own-after : (capacity : ℕ) (c : Call) (h : History) → deskNamedBy c ≡ desk → AllOwn desk (h .made) → AllOwn desk (historyAfter capacity c h .made)
   unfolding historyAfter
-  own-after (edit d e) h by own = pushed-own h d _ (sym by) own
-  own-after (undo d) h by own = popped-own h _ (h .made) own own
+  own-after capacity (edit d e) h by own = pushed-own h d _ (sym by) own
+  own-after capacity (undo d) h by own = popped-own h _ (h .made) own own
 
-  pub own-all : (calls : List Call) (h : History) → AllBy desk calls → AllOwn desk (h .made) → AllOwn desk (historyAfterAll capacity calls h .made)
+  pub own-all : (capacity : ℕ) (calls : List Call) (h : History) → AllBy desk calls → AllOwn desk (h .made) → AllOwn desk (historyAfterAll capacity calls h .made)
   unfolding historyAfterAll
-  own-all [] h by own = own
-  own-all (c ∷ cs) h by own = own-all cs (historyAfter capacity c h) (by .1) (own-after c h (by .0) own)
+  own-all capacity [] h by own = own
+  own-all capacity (c ∷ cs) h by own = own-all capacity cs (historyAfter capacity c h) (by .1) (own-after capacity c h (by .0) own)
 
   -- the trailers of its start file too
   pub record Alone (h : History) : Type 0 where
@@ -67,13 +67,13 @@ module _ (capacity desk : ℕ) where
   pushed-start h d (granted file) = refl
   pushed-start h d (refused number place) = refl
 
-  start-after : (c : Call) (h : History) → deskNamedBy c ≡ desk → Owned desk (h .start) → Owned desk (historyAfter capacity c h .start)
+  start-after : (capacity : ℕ) (c : Call) (h : History) → deskNamedBy c ≡ desk → Owned desk (h .start) → Owned desk (historyAfter capacity c h .start)
   unfolding historyAfter
-  start-after (edit d e) h by owned = rw (pushed-start h d _) owned
-  start-after (undo d) h by owned = popped-start h (h .made) (below d (h .start) (h .made)) owned (ap (λ k. below k (h .start) (h .made)) by)
+  start-after capacity (edit d e) h by owned = rw (pushed-start h d _) owned
+  start-after capacity (undo d) h by owned = popped-start h (h .made) (below d (h .start) (h .made)) owned (ap (λ k. below k (h .start) (h .made)) by)
 
-  alone-after : (c : Call) (h : History) → deskNamedBy c ≡ desk → Alone h → Alone (historyAfter capacity c h)
-  alone-after c h by a = record { owned = start-after c h by (a .owned); own = own-after c h by (a .own) }
+  alone-after : (capacity : ℕ) (c : Call) (h : History) → deskNamedBy c ≡ desk → Alone h → Alone (historyAfter capacity c h)
+  alone-after capacity c h by a = record { owned = start-after capacity c h by (a .owned); own = own-after capacity c h by (a .own) }
 
   -- its undo is not refused with 30
   undo-alone : (start : List ℕ) (made : List Entry) → Owned desk start → AllOwn desk made → (place : ℕ) → below desk start made ≡ refused 30 place → ⊥
@@ -107,22 +107,22 @@ not-thirty (granted file) z e = omega arith
 not-thirty (refused number place) z e = z place (ap (λ k. refused k place) e)
 
 module _ (StartOpens : Type 0) (capacity desk : ℕ) where
-  call-alone : (c : Call) (m : State) (h : History) → Follows StartOpens capacity m h → deskNamedBy c ≡ desk → Alone capacity desk h
+  call-alone : (c : Call) (m : State) (h : History) → Follows StartOpens capacity m h → deskNamedBy c ≡ desk → Alone desk h
       → (place : ℕ) → outcome c m ≡ refused 30 place → ⊥
   unfolding decided
   call-alone (edit d e) m h f by a place r = let low = edit-below e d m 30 place r in omega arith
   call-alone (undo d) m h f by a place r =
-      undo-alone capacity desk (h .start) (h .made) (a .owned) (a .own) place
+      undo-alone desk (h .start) (h .made) (a .owned) (a .own) place
       (ap (λ k. below k (h .start) (h .made)) (sym by) ∙ sym (undo-step StartOpens capacity m h f d .0) ∙ r)
 
-  pub answers-alone : (calls : List Call) (m : State) (h : History) → Follows StartOpens capacity m h → AllTyped calls → AllBy desk calls → Alone capacity desk h
+  pub answers-alone : (calls : List Call) (m : State) (h : History) → Follows StartOpens capacity m h → AllTyped calls → AllBy desk calls → Alone desk h
       → NoneHas 30 (answers calls m)
   unfolding answers
   answers-alone [] m h f typed by a = tt
   answers-alone (c ∷ cs) m h f typed by a = (
     not-thirty (outcome c m) (call-alone c m h f (by .0) a),
     answers-alone cs (stateAfter c m) (historyAfter capacity c h) (step-keeps StartOpens capacity m h f c (typed .0) .1) (typed .1) (by .1)
-        (alone-after capacity desk c h (by .0) a),
+        (alone-after desk capacity c h (by .0) a),
   )
 
 -- ---- Files that edits made

@@ -81,12 +81,12 @@ module _ (StartOpens : Type 0) (capacity : ℕ) (m : State) (h : History) (f : F
       (omega (arith, undone-length (top h) desk (top g) u, f .inside, f .whole, f .agrees .size)) (u .opens) stacked
 
   -- undo, with what edits made
-  undo-keeps : (desk : ℕ) (made : List Entry) → h .made ≡ made → Stacked (h .start) made → (o : Outcome) → undoOf (top h) desk ≡ o → o ≡ below desk (h .start) made
+  undo-keeps : (desk : ℕ) (made : List Entry) → Stacked (h .start) made → (o : Outcome) → undoOf (top h) desk ≡ o → o ≡ below desk (h .start) made
       → Follows StartOpens capacity (left o m) (popped h o made)
   unfolding popped below
-  undo-keeps desk made e s (refused number place) q b = rw (left-refused m number place) f
-  undo-keeps desk [] e s (granted t) q b = back-keeps desk (started t) q tt
-  undo-keeps desk (n ∷ ns) e s (granted t) q b =
+  undo-keeps desk made s (refused number place) q b = rw (left-refused m number place) f
+  undo-keeps desk [] s (granted t) q b = back-keeps desk (started t) q tt
+  undo-keeps desk (n ∷ ns) s (granted t) q b =
       let is = granted-same _ t (passing-granted (deskFault (n .desk) desk) _ (granted (topOf (h .start) ns)) t (sym b) .1) in
       rw (← is) (back-keeps desk (record { start = h .start; made = ns }) (q ∙ ap granted (sym is)) (s .1))
 
@@ -114,7 +114,7 @@ module _ (StartOpens : Type 0) (capacity : ℕ) (m : State) (h : History) (f : F
       × Follows StartOpens capacity (stateAfter (undo desk) m) (historyAfter capacity (undo desk) h)
   unfolding decided stateAfter historyAfter
   undo-step desk =
-      rw (undo-decided desk) (refl, undo-keeps desk (h .made) refl (f .stacked) _ (undo-stacked desk (h .made) (f .stacked)) refl)
+      rw (undo-decided desk) (refl, undo-keeps desk (h .made) (f .stacked) _ (undo-stacked desk (h .made) (f .stacked)) refl)
 
   -- each call is decided as the history decides it, and keeps all this
   pub step-keeps : (c : Call) → Typed c

@@ -88,11 +88,12 @@ module _ (form : Form) (s : List ℕ) where
     (λ h. and-both _ _ (le-leb _ _ (h .0)) (eq-eqb (be 4 s (length s - 4)) (formClosing form) (h .1))),
   )
 
--- the two closing bytes differ
+-- the closing bytes of the two forms differ
+pub not-both-forms : (n : ℕ) → n ≡ formClosing Old → n ≡ formClosing Long → ⊥
+not-both-forms n old long = omega arith
+
 only-old : (s : List ℕ) → carries Old s ≡ true → carries Long s ≡ false
-only-old s h =
-    let old = carries-is Old s .0 h in
-    fails (carries Long s) (λ l. let long = carries-is Long s .0 l in omega (arith, old .1, long .1))
+only-old s h = fails (carries Long s) (λ l. not-both-forms _ (carries-is Old s .0 h .1) (carries-is Long s .0 l .1))
 
 -- which it is, by both tests
 pub ending-long : (s : List ℕ) → carries Long s ≡ true → carriedBy s ≡ Trailer Long

@@ -33,7 +33,7 @@ use Rattle.journal.specs.declared.change.Ending.{Ending}
 use Rattle.journal.specs.declared.change.Ending.the-variants.{Nothing, Trailer}
 use Rattle.journal.specs.Rules.{CarriesOld, CarriesLong, endsLong, trailerPlace, placeAltered, bytesAltered, oldAt, paddingAt, lengthBefore, previousTrailer, deskNamed, imageBefore, AlteredKnown, PaddingZero, PreviousIs, undoRules}
 use Rattle.journal.proofs.Outcomes.{opens-true, passing-goes, passing-stops}
-use Rattle.journal.proofs.Trailers.{trailer-fields, slot-old, carries-is, ending-carries, ending-nothing, ending-least, previous-none, previous-there, previous-other}
+use Rattle.journal.proofs.Trailers.{trailer-fields, slot-old, carries-is, not-both-forms, ending-carries, ending-nothing, ending-least, previous-none, previous-there, previous-other}
 use Rattle.journal.proofs.Undos.{changeOf, undone}
 use Rattle.journal.proofs.Buffers.{inside}
 use Rattle.journal.proofs.Rules.{By, outcome-exactly, by-same, by-rule, by-done, by-image}
@@ -57,7 +57,7 @@ module _ (s : List ℕ) where
 
   -- never both
   not-two : CarriesOld s → CarriesLong s → ⊥
-  not-two a b = omega (arith, a .1, b .1)
+  not-two a b = not-both-forms _ (a .1) (b .1)
 
 abbrev isLong : Form → Bool
 isLong Old = false
@@ -65,7 +65,7 @@ isLong Long = true
 
 ends-by : (form : Form) (s : List ℕ) → carriedBy s ≡ Trailer form → endsLong s ≡ isLong form
 unfolding endsLong
-ends-by Old s e = ne-eqb (be 4 s (length s - 4)) 0x42414332 (λ l. omega (arith, carries-is Old s .0 (ending-carries Old s e) .1))
+ends-by Old s e = ne-eqb (be 4 s (length s - 4)) 0x42414332 (not-both-forms _ (carries-is Old s .0 (ending-carries Old s e) .1))
 ends-by Long s e = eq-eqb (be 4 s (length s - 4)) 0x42414332 (carries-is Long s .0 (ending-carries Long s e) .1)
 
 -- what goes by the closing bytes
