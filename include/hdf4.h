@@ -22,10 +22,10 @@ extern "C" {
 #endif
 
 /* The version of the library that this header is of. */
-#define HDF4_VERSION "0.3.0"
+#define HDF4_VERSION "0.3.1"
 #define HDF4_VERSION_MAJOR 0
 #define HDF4_VERSION_MINOR 3
-#define HDF4_VERSION_PATCH 0
+#define HDF4_VERSION_PATCH 1
 
 /* The most bytes that an image has. */
 #define HDF4_MOST_BYTES 2147483647
@@ -303,6 +303,14 @@ typedef struct {
     uint64_t bits;   /* of a signed number its two's complement in 64 bits, of a float its own bits */
 } hdf4_value_answer;
 
+/* What was read of a column of a Vdata. */
+typedef struct {
+    uint64_t number;
+    uint64_t place;
+    uint64_t kind;    /* HDF4_SIGNED, HDF4_UNSIGNED, HDF4_FLOAT32 or HDF4_FLOAT64: that of every value */
+    uint64_t records; /* how many records: values that were written */
+} hdf4_column_answer;
+
 /* What was listed of a Vgroup. */
 typedef struct {
     uint64_t number;
@@ -428,6 +436,11 @@ hdf4_pack_answer hdf4_pack_vdata(uint16_t interlace, uint32_t records, uint16_t 
 /* Reads one value of a Vdata, its head of tag 1962 and its data of tag 1963. All indices count from 0. Kind and bits are the number's,
  * whichever of its bytes stands first in the image. */
 hdf4_value_answer hdf4_read_value(const uint8_t *image, size_t n, uint16_t ref, uint64_t record, uint64_t field, uint64_t component);
+
+/* Reads one component of one field in every record of a Vdata, in order: the bits of each value, as hdf4_read_value gives them. There
+ * must be room for a value of every record. A Vdata without records has a column without values, and needs no data of tag 1963. */
+hdf4_column_answer hdf4_read_column(const uint8_t *image, size_t n, uint16_t ref, uint64_t field, uint64_t component, uint64_t *out,
+                                    size_t room);
 
 /* Lists the members of a Vgroup in order, each member of tag 1965 followed by its own members: tag and reference of each. There are at
  * most HDF4_MOST_PAIRS pairs, and at most 16 groups nested, the named one included. It keeps 576 bytes of stack, or 264 and 336 for each

@@ -9,8 +9,9 @@ use crate::progress::Progress;
 use crate::sorted::Sorted;
 use crate::text::{quoted, refusal};
 use crate::words::{number, Words};
-use hdf4::{base_type, ByteOrder, Error, Field, Rule, Value, Vdata};
+use hdf4::{base_type, ByteOrder, Error, Field, Kind, Rule, Value, Vdata};
 use std::borrow::Cow;
+use std::mem::size_of;
 use std::os::unix::ffi::OsStrExt;
 
 const HEAD: u16 = 1962;
@@ -20,6 +21,9 @@ const CHARACTERS: [u16; 2] = [3, 4];
 
 /// How many references a message names.
 const MOST_NAMED: usize = 100;
+
+/// How many bytes of columns are kept at most. Values past that are read one by one.
+const MOST_KEPT: usize = 1 << 26;
 
 /// The values of a Vdata of a file, which is given by its reference or its name.
 pub fn values(words: &Words, print: &mut Print) -> Result<(), Fault> {
@@ -83,21 +87,53 @@ struct Table<'a> {
     vdata: Vdata<'a>,
     /// The image that they are read from.
     image: Cow<'a, [u8]>,
+    /// The first columns, as many as are kept: one a component of a field, in order.
+    columns: Vec<Kept>,
+    /// How many columns are those of the fields before each one.
+    before: Vec<usize>,
+}
+
+/// A column that was read: the bits of each record's value.
+struct Kept {
+    kind: Kind,
+    bits: Vec<u64>,
 }
 
 impl<'a> Table<'a> {
     fn of(file: &'a Input, reference: u16) -> Result<Table<'a>, Fault> {
         let refused = |e: Error| file.refused(format_args!("Vdata {reference}: {e}"));
         let vdata = hdf4::read_vdata(&file.bytes, reference).map_err(refused)?;
-        let mut table = Table { file, reference, vdata, image: Cow::Borrowed(&file.bytes) };
+        let before = (0..vdata.fields.len()).map(|index| vdata.fields[..index].iter().map(order).sum()).collect();
+        let mut table = Table { file, reference, vdata, image: Cow::Borrowed(&file.bytes), columns: Vec::new(), before };
         if table.records() > 0 {
             // The first value is refused if any is, and names the place in this file.
             table.value(0, 0, 0)?;
+            // Each column is read by a call of its own, and each call opens the image.
+            let alone = Sorted::of(file, |tag, other| other == reference && [HEAD, VALUES].contains(&tag))?;
+            table.image = Cow::Owned(alone.image);
+            table.keep_columns()?;
         }
-        // Each value is read by a call of its own, and each call opens the image.
-        let alone = Sorted::of(file, |tag, other| other == reference && [HEAD, VALUES].contains(&tag))?;
-        table.image = Cow::Owned(alone.image);
         Ok(table)
+    }
+
+    /// Reads the columns in order, as long as there is memory for them.
+    fn keep_columns(&mut self) -> Result<(), Fault> {
+        let records = self.records();
+        let most = MOST_KEPT / size_of::<u64>() / records;
+        let fields = self.vdata.fields.iter().enumerate();
+        let columns: Vec<_> =
+            fields.flat_map(|(index, field)| (0..order(field)).map(move |component| (index, component))).collect();
+        for (index, component) in columns.into_iter().take(most) {
+            let mut bits = Vec::new();
+            if input::reserve(&self.file.name, &mut bits, records).is_err() {
+                break;
+            }
+            bits.resize(records, 0);
+            let column = hdf4::read_column(&self.image, self.reference, index, component, &mut bits);
+            let kind = column.map_err(|e| self.refused(e))?.kind;
+            self.columns.push(Kept { kind, bits });
+        }
+        Ok(())
     }
 
     /// How many records have values: none, where they have no fields.
@@ -110,7 +146,10 @@ impl<'a> Table<'a> {
     }
 
     fn value(&self, record: usize, index: usize, component: usize) -> Result<Value, Fault> {
-        hdf4::read_value(&self.image, self.reference, record, index, component).map_err(|e| self.refused(e))
+        match self.columns.get(self.before[index] + component) {
+            Some(column) => Ok(column.kind.value(column.bits[record])),
+            None => hdf4::read_value(&self.image, self.reference, record, index, component).map_err(|e| self.refused(e)),
+        }
     }
 
     /// Values that are refused. Where they are in linked blocks, it is said how to get at their bytes.
@@ -130,7 +169,7 @@ impl<'a> Table<'a> {
 
     /// The values of one field in one record.
     fn cell<'b>(&'b self, record: usize, index: usize, field: &Field) -> impl Iterator<Item = Result<Value, Fault>> + 'b {
-        (0..usize::from(field.order)).map(move |component| self.value(record, index, component))
+        (0..order(field)).map(move |component| self.value(record, index, component))
     }
 
     /// The characters of one field in one record.
@@ -213,6 +252,11 @@ impl<'a> Table<'a> {
         json.close('}')?;
         json.end()
     }
+}
+
+/// How many components a field has.
+fn order(field: &Field) -> usize {
+    field.order.into()
 }
 
 fn is_text(field: &Field) -> bool {

@@ -7,7 +7,9 @@ use common::json::Json;
 use common::{file, granted, misused, program, refused, text, Folder};
 use std::ffi::OsStr;
 use std::fs::{self, File};
+use std::io::{BufRead, BufReader};
 use std::os::unix::ffi::OsStrExt;
+use std::process::Stdio;
 use std::time::{Duration, Instant};
 
 const HEAD: u16 = 1962;
@@ -240,6 +242,24 @@ fn a_name_is_found_among_thousands() {
     let heads: Vec<(u16, u16, &[u8])> = (1..=4096).rev().map(|reference| (HEAD, reference, &head[..])).collect();
     let path = folder.holding("same.hdf", &file_of(&heads));
     assert!(misused(&["values", text(&path), "same"]).ends_with(", 99, 100 and 3996 more\n"));
+}
+
+/// Of two columns of 5,000,000 records one is kept, and the other is read value by value.
+#[test]
+fn values_of_columns_that_are_too_long_are_printed_alike() {
+    const RECORDS: u32 = 5_000_000;
+    let folder = Folder::new("long columns");
+    let bytes: Vec<u8> = (0..2 * RECORDS).map(|number| (number % 251) as u8).collect();
+    let head = head(b"long", RECORDS, &[(b"kept", 21, 1, 1), (b"read", 21, 1, 1)]);
+    let path = folder.holding("long.hdf", &file_of(&[(HEAD, 1, &head), (VALUES, 1, &bytes)]));
+    let mut child = program().args(["values", text(&path), "1"]).stdout(Stdio::piped()).spawn().unwrap();
+    let lines = BufReader::new(child.stdout.take().unwrap()).lines();
+    let printed: Vec<String> = lines.take(1001).map(Result::unwrap).collect();
+    assert_eq!(printed[0], "kept\tread");
+    for (line, numbers) in printed[1..].iter().zip(bytes.chunks_exact(2)) {
+        assert_eq!(*line, format!("{}\t{}", numbers[0], numbers[1]));
+    }
+    assert!(child.wait().unwrap().success());
 }
 
 #[test]

@@ -293,8 +293,8 @@ static void linked_row(const char *folder, const struct parts *parts)
 
 static void linked_rows(const char *folder)
 {
-    static const struct parts rows[] = {{16, 4096, 16},   {256, 4096, 16},  {1000, 4096, 16},
-                                        {1000, 4096, 64}, {3800, 4096, 16}, {1024, 65536, 64}};
+    static const struct parts rows[] = {{16, 4096, 16},   {64, 4096, 16},   {256, 4096, 16},  {1000, 4096, 16}, {1000, 4096, 64},
+                                        {2000, 4096, 16}, {3000, 4096, 16}, {3800, 4096, 16}, {4000, 4096, 64}, {1024, 65536, 64}};
     for (int i = 0; i < COUNT(rows); i++)
         linked_row(folder, &rows[i]);
 }
@@ -320,6 +320,12 @@ int main(int count, char **words)
            "|--:|--|--:|--:|--:|--:|--:|--:|\n");
     each_file(words[1], reading_row);
 
+    printf("\n");
+    finding_table(words[1]);
+
+    printf("\n");
+    worst_table(words[1]);
+
     printf("\n### Add an element, undo it\n\n"
            "| slots | references | ours, µs | libhdf4, µs | ratio | libhdf4 on an open file, µs | ratio | ours a slot, ns |\n"
            "|--:|--|--:|--:|--:|--:|--:|--:|\n");
@@ -335,5 +341,8 @@ int main(int count, char **words)
            "ratio | that a block, ns |\n"
            "|--:|--:|--:|--:|--:|--:|--:|--:|--:|--:|\n");
     linked_rows(words[1]);
+
+    printf("\n");
+    column_table(words[1]);
     return 0;
 }

@@ -10,6 +10,11 @@
 
 #define COUNT(list) ((int)(sizeof(list) / sizeof((list)[0])))
 
+/* What an element is found by. */
+struct pair {
+    uint16_t tag, reference;
+};
+
 /* ---- Files (files.c) ---- */
 
 #define TAG 1000
@@ -35,10 +40,20 @@ struct file {
     char path[4096];
     uint8_t *buffer;
     size_t capacity, length;
-    int slots, elements; /* the references of plain elements go from FIRST_REFERENCE on, one each */
+    int slots, live;
+    int elements; /* in a file of plain elements: their references go from FIRST_REFERENCE on, one each */
 };
 
-/* Writes a file of plain elements with libhdf4, in blocks of so many slots. All slots but one are live. */
+/* Names a file, which need not be there yet. */
+struct file file_named(const char *folder, const char *name, int elements);
+
+/* Reads a file that is there now, and opens it with our library. */
+void load(struct file *file);
+
+/* Writes plain elements with libhdf4, in blocks of so many slots. All slots but one are live. */
+void write_elements(const char *path, int slots, int per_block, enum order order);
+
+/* Makes a file of them, and opens it with our library. */
 struct file make_file(const char *folder, const char *name, int slots, int per_block, enum order order);
 
 /* Writes a file of one element with libhdf4. */
@@ -55,8 +70,29 @@ struct file make_linked_file(const char *folder, const char *name, const struct 
 /* Gives memory with the bytes that both of these files have in their element. */
 uint8_t *new_contents(size_t size);
 
+/* What a file is an example of: what programs write through the interfaces; plain elements whose references ascend, also from tag
+ * to tag and where they start anew; slots that are freed and used again; references in no order. */
+enum example { BY_INTERFACE, IN_ORDER, USED_AGAIN, IN_NO_ORDER, EXAMPLES };
+
+/* How a file is written: its name, what it holds in words, the call that writes it, and how many elements that call gets. */
+struct recipe {
+    const char *name, *words;
+    enum example example;
+    void (*write)(const char *path, int count);
+    int count;
+};
+
+/* Files of the interfaces (written.c), and of plain elements (slots.c). The last entry of both has no name. */
+extern const struct recipe interface_files[], slot_files[];
+
+/* Writes a file with libhdf4, and opens it with our library. */
+struct file make_by(const char *folder, const struct recipe *recipe);
+
 /* Reads a whole file to the front of a buffer with one read. Gives its length. */
 size_t read_file(const char *path, uint8_t *buffer, size_t capacity);
+
+/* Writes bytes to a new file. */
+void write_file(const char *path, const uint8_t *bytes, size_t length);
 
 /* Writes a copy of a file beside it, and its path to a lent string. */
 void copy_file(const struct file *file, const char *suffix, char *path, size_t room);
@@ -75,8 +111,14 @@ extern const char *const chain_names[CHAINS];
 enum spread { BEHIND_OWN, SCATTERED, SPREADS };
 extern const char *const spread_names[SPREADS];
 
-/* Makes an image of 256 blocks of 16 slots, all live, with references that ascend along the chain. */
-struct image make_image(enum chain chain, enum spread spread);
+/* Gives tag and reference of a slot that is so many slots behind the chain's first. */
+typedef struct pair pairing(int slot);
+
+/* One tag, and references that ascend along the chain. */
+struct pair ascending_pair(int slot);
+
+/* Makes an image of 256 blocks of 16 slots, all live. */
+struct image make_image(enum chain chain, enum spread spread, pairing *pairs);
 
 /* ---- Images of an element in linked blocks (linked.c) ---- */
 
@@ -101,6 +143,13 @@ struct image make_linked(const struct links *links);
 
 /* Writes what so many blocks of that element hold, from one of them on. */
 void put_contents(uint8_t *at, int block, int count);
+
+/* ---- Tables (finding.c, worst.c, columns.c) ---- */
+
+/* Each prints one, with its heading. */
+void finding_table(const char *folder);
+void worst_table(const char *folder);
+void column_table(const char *folder);
 
 /* ---- Times (times.c) ---- */
 

@@ -71,7 +71,7 @@ static void file_row(const char *folder, const char *how, int slots, int per_blo
 
 static void image_row(enum chain chain, enum spread spread)
 {
-    struct image image = make_image(chain, spread);
+    struct image image = make_image(chain, spread, ascending_pair);
     struct opening opening = {.image = image.bytes, .length = image.length};
     hdf4_open_answer opened = same_answer(&opening);
     need(opened.number == 0 && opened.blocks == 256, "an image opens with all its blocks");

@@ -1,4 +1,4 @@
-/* Files of plain elements, and of one in linked blocks, written by libhdf4 itself. */
+/* Files written by libhdf4 itself: of plain elements, of one in linked blocks, and any others, by their recipes. */
 #define _POSIX_C_SOURCE 200809L
 #include <fcntl.h>
 #include <stdio.h>
@@ -41,8 +41,7 @@ static void fill_references(uint16_t *references, int count, enum order order)
         shuffle(references, count);
 }
 
-/* Opens a file that is there now with our library, and keeps its bytes. */
-static void load(struct file *file)
+void load(struct file *file)
 {
     struct stat status;
     need(stat(file->path, &status) == 0, "the length of a file");
@@ -53,11 +52,18 @@ static void load(struct file *file)
 
     hdf4_open_answer opened = hdf4_open(file->buffer, file->length);
     need(opened.number == 0, "our library opens the file");
-    need((int)opened.live == file->elements + 1, "the elements and the version are live");
     file->slots = (int)opened.slots;
+    file->live = (int)opened.live;
 }
 
-static struct file file_named(const char *folder, const char *name, int elements)
+/* Loads a file that has its elements and the version alone. */
+static void load_elements(struct file *file)
+{
+    load(file);
+    need(file->live == file->elements + 1, "the elements and the version are live");
+}
+
+struct file file_named(const char *folder, const char *name, int elements)
 {
     struct file file = {.elements = elements};
     int length = snprintf(file.path, sizeof file.path, "%s/%s", folder, name);
@@ -65,23 +71,41 @@ static struct file file_named(const char *folder, const char *name, int elements
     return file;
 }
 
-struct file make_file(const char *folder, const char *name, int slots, int per_block, enum order order)
+/* One slot is for the version, one stays free. */
+static int elements_of(int slots)
 {
-    /* One slot is for the version, one stays free. */
-    struct file file = file_named(folder, name, slots - 2);
+    return slots - 2;
+}
+
+void write_elements(const char *path, int slots, int per_block, enum order order)
+{
     uint16_t references[MOST_SLOTS];
     uint8_t bytes[ELEMENT_BYTES];
 
-    fill_references(references, file.elements, order);
-    int32 id = Hopen(file.path, DFACC_CREATE, (int16)per_block);
+    fill_references(references, elements_of(slots), order);
+    int32 id = Hopen(path, DFACC_CREATE, (int16)per_block);
     need(id != FAIL, "Hopen for a new file");
-    for (int i = 0; i < file.elements; i++) {
+    for (int i = 0; i < elements_of(slots); i++) {
         memset(bytes, references[i], sizeof bytes);
         need(Hputelement(id, TAG, references[i], bytes, sizeof bytes) != FAIL, "Hputelement");
     }
     need(Hclose(id) != FAIL, "Hclose");
-    load(&file);
+}
+
+struct file make_file(const char *folder, const char *name, int slots, int per_block, enum order order)
+{
+    struct file file = file_named(folder, name, elements_of(slots));
+    write_elements(file.path, slots, per_block, order);
+    load_elements(&file);
     need(file.slots == slots, "the file has the slots that it should have");
+    return file;
+}
+
+struct file make_by(const char *folder, const struct recipe *recipe)
+{
+    struct file file = file_named(folder, recipe->name, 0);
+    recipe->write(file.path, recipe->count);
+    load(&file);
     return file;
 }
 
@@ -102,7 +126,7 @@ struct file make_large_file(const char *folder, const char *name, size_t size)
     need(id != FAIL && Hputelement(id, TAG, FIRST_REFERENCE, bytes, (int32)size) != FAIL, "Hputelement of a large element");
     need(Hclose(id) != FAIL, "Hclose");
     free(bytes);
-    load(&file);
+    load_elements(&file);
     return file;
 }
 
@@ -118,7 +142,7 @@ struct file make_linked_file(const char *folder, const char *name, const struct 
     need(element != FAIL && Hwrite(element, size, bytes) == size, "Hwrite to linked blocks");
     need(Hendaccess(element) != FAIL && Hclose(id) != FAIL, "Hclose");
     free(bytes);
-    load(&file);
+    load_elements(&file);
     return file;
 }
 
@@ -133,13 +157,18 @@ size_t read_file(const char *path, uint8_t *buffer, size_t capacity)
     return length;
 }
 
+void write_file(const char *path, const uint8_t *bytes, size_t length)
+{
+    FILE *file = fopen(path, "wb");
+    need(file != NULL && fwrite(bytes, 1, length, file) == length, "bytes that are written to a file");
+    need(fclose(file) == 0, "bytes that are written to a file");
+}
+
 void copy_file(const struct file *file, const char *suffix, char *path, size_t room)
 {
     int length = snprintf(path, room, "%s%s", file->path, suffix);
     need(length > 0 && (size_t)length < room, "the name of a copy");
-    FILE *copy = fopen(path, "wb");
-    need(copy != NULL && fwrite(file->buffer, 1, file->length, copy) == file->length, "a copy of a file");
-    need(fclose(copy) == 0, "a copy of a file");
+    write_file(path, file->buffer, file->length);
 }
 
 void free_file(struct file *file)

@@ -46,17 +46,22 @@ static void fill_elements(uint16_t *elements, const uint16_t *blocks, enum sprea
 }
 
 /* Writes the slots of a block, and their elements. The first slot of the block is so many slots behind the chain's first. */
-static void put_slots(uint8_t *bytes, int block, int first, const uint16_t *elements)
+static void put_slots(uint8_t *bytes, int block, int first, const uint16_t *elements, pairing *pairs)
 {
     for (int i = 0; i < PER_BLOCK; i++) {
-        int reference = FIRST_REFERENCE + first + i;
+        struct pair pair = pairs(first + i);
         int place = element_place(elements[first + i]);
-        put_slot(bytes + block + BLOCK_FRONT + i * SLOT, TAG, reference, place, ELEMENT_BYTES);
-        memset(bytes + place, reference, ELEMENT_BYTES);
+        put_slot(bytes + block + BLOCK_FRONT + i * SLOT, pair.tag, pair.reference, place, ELEMENT_BYTES);
+        memset(bytes + place, pair.reference, ELEMENT_BYTES);
     }
 }
 
-struct image make_image(enum chain chain, enum spread spread)
+struct pair ascending_pair(int slot)
+{
+    return (struct pair){.tag = TAG, .reference = (uint16_t)(FIRST_REFERENCE + slot)};
+}
+
+struct image make_image(enum chain chain, enum spread spread, pairing *pairs)
 {
     struct image image = new_image(LENGTH);
     uint16_t blocks[BLOCKS], elements[SLOTS];
@@ -66,7 +71,7 @@ struct image make_image(enum chain chain, enum spread spread)
     for (int i = 0; i < BLOCKS; i++) {
         int block = block_place(blocks[i]);
         put_block(image.bytes + block, PER_BLOCK, i + 1 < BLOCKS ? block_place(blocks[i + 1]) : 0);
-        put_slots(image.bytes, block, i * PER_BLOCK, elements);
+        put_slots(image.bytes, block, i * PER_BLOCK, elements, pairs);
     }
     return image;
 }

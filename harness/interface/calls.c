@@ -322,6 +322,24 @@ static void vdatas(void)
     need(hdf4_read_value(file, 398, 4, 1, 3, 0).number == HDF4_NO_VALUE, "hdf4_read_value of no field");
 }
 
+static void columns(void)
+{
+    static const uint64_t winds[5] = {0, 0, 0, 0x3fc00000, 77}, heights[5] = {0, 0, UINT64_MAX - 1, 0, 77};
+    uint64_t values[5] = {77, 77, 77, 77, 77};
+    hdf4_column_answer c = hdf4_read_column(file, 397, 4, 1, 0, values, 5);
+    need(c.number == HDF4_OUTSIDE && c.place == 124 && c.kind == 0 && c.records == 0, "hdf4_read_column, refused");
+    need(hdf4_read_column(file, 398, 4, 2, 0, values, 5).number == HDF4_NO_VALUE, "hdf4_read_column of no field");
+    need(hdf4_read_column(file, 398, 4, 1, 2, values, 5).number == HDF4_NO_VALUE, "hdf4_read_column of no component");
+    need(hdf4_read_column(file, 398, 4, 1, 0, values, 3).number == HDF4_SMALL, "hdf4_read_column without room");
+    need(values[0] == 77 && values[3] == 77, "nothing written by hdf4_read_column, refused");
+    c = hdf4_read_column(file, 398, 4, 1, 0, values, 5);
+    need(c.number == 0 && c.place == 0 && c.kind == HDF4_FLOAT32 && c.records == 4, "hdf4_read_column, floats");
+    need(memcmp(values, winds, sizeof winds) == 0, "the values of hdf4_read_column, floats");
+    c = hdf4_read_column(file, 398, 4, 0, 1, values, 4);
+    need(c.number == 0 && c.kind == HDF4_SIGNED && c.records == 4, "hdf4_read_column, signed");
+    need(memcmp(values, heights, sizeof heights) == 0, "the values of hdf4_read_column, signed");
+}
+
 /* Four numbers of each field of the Vdata whose numbers stand low byte first: type, size, offset and order. */
 static const uint16_t low_fields[10][4] = {
     {16387, 1, 0, 1},  {16388, 1, 1, 1},  {16389, 8, 2, 2},  {16390, 16, 10, 2}, {16404, 1, 26, 1},
@@ -371,6 +389,10 @@ static void little_endian_values(void)
         hdf4_value_answer x = hdf4_read_value(low, 199, 6, 0, known[i].field, known[i].component);
         need(x.number == 0 && x.place == 0, "hdf4_read_value, low byte first");
         need(x.kind == known[i].kind && x.bits == known[i].bits, "a value that stands low byte first");
+        uint64_t bits[2] = {0, 77};
+        hdf4_column_answer c = hdf4_read_column(low, 199, 6, known[i].field, known[i].component, bits, 2);
+        need(c.number == 0 && c.place == 0 && c.kind == known[i].kind && c.records == 1, "hdf4_read_column, low byte first");
+        need(bits[0] == known[i].bits && bits[1] == 77, "a column whose value stands low byte first");
     }
 }
 
@@ -413,7 +435,7 @@ static void names(void)
          "hdf4_refusal_text of NO_BLOCK");
     for (uint64_t number = 0; number < 100; number++)
         need(hdf4_refusal_text(number)[0] != 0, "hdf4_refusal_text of every number");
-    need(strcmp(HDF4_VERSION, "0.3.0") == 0, "HDF4_VERSION");
+    need(strcmp(HDF4_VERSION, "0.3.1") == 0, "HDF4_VERSION");
 }
 
 int main(void)
@@ -434,6 +456,7 @@ int main(void)
     records();
     groups();
     vdatas();
+    columns();
     little_endian_heads();
     little_endian_values();
     unknown_types();

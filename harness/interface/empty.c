@@ -21,13 +21,14 @@ static void keep(struct answers *answers, const char *call, uint64_t number, con
         keep(answers, #call, number, &answer, sizeof answer); \
     } while (0)
 
-static uint8_t file[FILE_LENGTH], small[SMALL_LENGTH];
+static uint8_t whole[FILE_LENGTH], file[FILE_LENGTH], small[SMALL_LENGTH];
 
-static void read_all(uint8_t *b, uint16_t *s, uint32_t *l, hdf4_field *f, struct answers *answers)
+static void read_all(uint8_t *b, uint16_t *s, uint32_t *l, uint64_t *u, hdf4_field *f, struct answers *answers)
 {
     uint8_t bytes[8];
     uint16_t shorts[8];
     uint32_t longs[8];
+    uint64_t numbers[8];
     hdf4_field fields[8];
 
     KEEP(HDF4_NOT_HDF, hdf4_open_answer, hdf4_open(b, 0));
@@ -61,6 +62,10 @@ static void read_all(uint8_t *b, uint16_t *s, uint32_t *l, hdf4_field *f, struct
     KEEP(HDF4_NOT_HDF, hdf4_vdata_answer, hdf4_read_fields(b, 0, 4, f, 0));
     KEEP(HDF4_SMALL, hdf4_vdata_answer, hdf4_read_fields(file, FILE_LENGTH, 4, f, 0));
     KEEP(HDF4_NOT_HDF, hdf4_value_answer, hdf4_read_value(b, 0, 4, 3, 1, 0));
+    KEEP(HDF4_NOT_HDF, hdf4_column_answer, hdf4_read_column(b, 0, 4, 1, 0, numbers, 8));
+    KEEP(HDF4_NOT_HDF, hdf4_column_answer, hdf4_read_column(b, 0, 4, 1, 0, u, 0));
+    KEEP(HDF4_SMALL, hdf4_column_answer, hdf4_read_column(whole, FILE_LENGTH, 4, 1, 0, u, 0));
+    KEEP(0, hdf4_column_answer, hdf4_read_column(file, FILE_LENGTH, 4, 1, 0, u, 0));
     KEEP(HDF4_NOT_HDF, hdf4_group_list_answer, hdf4_list_group(b, 0, 3, shorts, 8));
     KEEP(HDF4_SMALL, hdf4_group_list_answer, hdf4_list_group(file, FILE_LENGTH, 3, s, 0));
     KEEP(0, hdf4_group_list_answer, hdf4_list_group(file, FILE_LENGTH, 6, s, 0));
@@ -120,12 +125,14 @@ static void pack_all(uint8_t *b, uint16_t *s, uint32_t *l, struct answers *answe
 void call_all(const struct empty *empty, struct answers *answers)
 {
     memset(answers, 0, sizeof *answers);
+    make_file(whole);
     make_file(file);
     make_small(small);
-    /* 1965/6, a Vgroup without members, in place of the data of the Vdata. */
+    /* 1965/6, a Vgroup without members, in place of the data of the Vdata, which then has no records. */
+    put_32(file + 245 + 2, 0);
     put_slot(file + 88, 1965, 6, 311, 14);
     put_16(file + 311 + 10, 3);
-    read_all(empty->bytes, empty->shorts, empty->longs, empty->fields, answers);
+    read_all(empty->bytes, empty->shorts, empty->longs, empty->numbers, empty->fields, answers);
     edit_all(empty->bytes, answers);
     pack_all(empty->bytes, empty->shorts, empty->longs, answers);
 }
@@ -136,8 +143,9 @@ void compare_with(const struct empty *empty)
     uint8_t bytes[16], bytes_before[16];
     uint16_t shorts[16] = {0xee};
     uint32_t longs[16] = {0xee};
+    uint64_t numbers[16] = {0xee};
     hdf4_field fields[4] = {{0, 0, 0, 0, 0, 0}};
-    struct empty other = {bytes, shorts, longs, fields};
+    struct empty other = {bytes, shorts, longs, numbers, fields};
 
     memset(bytes, 0xee, sizeof bytes);
     memcpy(bytes_before, bytes, sizeof bytes);
@@ -145,5 +153,6 @@ void compare_with(const struct empty *empty)
     call_all(empty, &answers);
     need(answers.count == expected.count, "as many answers");
     need(memcmp(answers.numbers, expected.numbers, sizeof expected.numbers) == 0, "the same answers for other empty slices");
-    need(memcmp(bytes, bytes_before, sizeof bytes) == 0 && shorts[0] == 0xee && longs[0] == 0xee, "nothing written to an empty slice");
+    need(memcmp(bytes, bytes_before, sizeof bytes) == 0 && shorts[0] == 0xee, "nothing written to an empty slice");
+    need(longs[0] == 0xee && numbers[0] == 0xee, "nothing written to an empty slice of longer numbers");
 }

@@ -13,6 +13,7 @@ struct empty {
     uint8_t *bytes;
     uint16_t *shorts;
     uint32_t *longs;
+    uint64_t *numbers;
     hdf4_field *fields;
 };
 

@@ -55,6 +55,8 @@ hdf4_pack_answer hdf4_pack_vdata(uint16_t interlace, uint32_t records, uint16_t 
                                  size_t class_length, uint16_t extension_tag, uint16_t extension_ref, uint16_t version, uint16_t more,
                                  uint8_t *out, size_t room);
 hdf4_value_answer hdf4_read_value(const uint8_t *image, size_t n, uint16_t ref, uint64_t record, uint64_t field, uint64_t component);
+hdf4_column_answer hdf4_read_column(const uint8_t *image, size_t n, uint16_t ref, uint64_t field, uint64_t component, uint64_t *out,
+                                    size_t room);
 hdf4_group_list_answer hdf4_list_group(const uint8_t *image, size_t n, uint16_t ref, uint16_t *list, size_t room);
 
 #ifdef __cplusplus

@@ -5,7 +5,7 @@
 
 int main(void)
 {
-    struct empty nulls = {NULL, NULL, NULL, NULL};
+    struct empty nulls = {NULL, NULL, NULL, NULL, NULL};
     compare_with(&nulls);
     printf("null pointers with length 0 are answered as others are\n");
     return 0;

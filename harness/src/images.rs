@@ -6,6 +6,7 @@ mod draft;
 mod limits;
 pub mod linked;
 mod noise;
+mod orders;
 mod parts;
 pub mod records;
 
@@ -23,7 +24,8 @@ pub fn image(random: &mut Random) -> Image {
         0..=59 => Image { kind: "noise", bytes: noise::random_bytes(random) },
         60..=259 => Image { kind: "telling values", bytes: noise::telling_values(random) },
         260..=509 => Image { kind: "well-formed", bytes: well_formed(random) },
-        510..=993 => Image { kind: "damaged", bytes: damage::damaged(random) },
+        510..=981 => Image { kind: "damaged", bytes: damage::damaged(random) },
+        982..=993 => Image { kind: "any order", bytes: orders::any_order(random) },
         994..=997 => Image { kind: "many blocks", bytes: limits::many_blocks(random) },
         _ => Image { kind: "many slots", bytes: limits::many_slots(random) },
     }

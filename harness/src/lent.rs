@@ -100,6 +100,12 @@ impl Filling for u32 {
     }
 }
 
+impl Filling for u64 {
+    fn filled(byte: u8) -> u64 {
+        u64::from(byte) | 0xc3e1_8700_5ad2_0000
+    }
+}
+
 /// Another number in each place of a field.
 impl Filling for Field {
     fn filled(byte: u8) -> Field {

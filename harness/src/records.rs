@@ -22,6 +22,7 @@ pub enum Cause {
     BytesBehind,
     ByRecord,
     ByField,
+    NoRecords,
     NoGroupInside,
     GroupsInside,
     MostNested,

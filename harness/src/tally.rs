@@ -6,7 +6,7 @@ use crate::editor::{BAD_TRAILER, NO_EDIT, NO_ROOM, OTHER_DESK, PRESENT};
 use crate::reader::{ABSENT, NOT_STORED, SMALL, TWICE};
 use crate::records::{Cause, DEEP, NO_VALUE, RECORD, TYPE};
 use crate::storage::{Layout, Way, CHAIN, NO_BLOCK, NO_TABLE, SHORT_BLOCK, SHORT_TABLE, STORAGE, TABLE_LOOP};
-use crate::vset::{type_of, Sort, Value, Vdata, CODES};
+use crate::vset::{type_of, Column, Sort, Value, Vdata, CODES};
 use edits::Edits;
 use std::{fmt, slice};
 
@@ -31,6 +31,7 @@ pub enum Call {
     ReadVdata,
     ReadFields,
     ReadValue,
+    ReadColumn,
     ListGroup,
     PackNumberType,
     PackDimension,
@@ -39,7 +40,7 @@ pub enum Call {
     PackVdata,
 }
 
-pub const CALLS: [Call; 24] = [
+pub const CALLS: [Call; 25] = [
     Call::Open,
     Call::List,
     Call::Find,
@@ -58,6 +59,7 @@ pub const CALLS: [Call; 24] = [
     Call::ReadVdata,
     Call::ReadFields,
     Call::ReadValue,
+    Call::ReadColumn,
     Call::ListGroup,
     Call::PackNumberType,
     Call::PackDimension,
@@ -140,11 +142,12 @@ const WAYS: [(Way, &str); 47] = [
 const WITH_INDEX: [u64; 5] = [NO_TABLE, SHORT_TABLE, NO_BLOCK, SHORT_BLOCK, TABLE_LOOP];
 
 /// The causes of an answer of a call on records, with their names in the table.
-const CAUSES: [(Cause, &str); 47] = [
+const CAUSES: [(Cause, &str); 48] = [
     (Cause::Whole, "0 whole"),
     (Cause::BytesBehind, "0 bytes behind"),
     (Cause::ByRecord, "0 by record"),
     (Cause::ByField, "0 by field"),
+    (Cause::NoRecords, "0 no records"),
     (Cause::NoGroupInside, "0 no group inside"),
     (Cause::GroupsInside, "0 groups inside"),
     (Cause::MostNested, "0 16 groups"),
@@ -190,16 +193,17 @@ const CAUSES: [(Cause, &str); 47] = [
     (Cause::SecondRoom, "14 second room"),
 ];
 
-/// How a type is met: in a head that a call granted, and as a value, by the way to it and by its sort.
+/// How a type is met: in a head that a call granted, as a value, by the way to it and by its sort, and in a column.
 #[derive(Clone, Copy, PartialEq, Eq)]
 enum Meeting {
     InHead(Call),
     Read(Cause),
     Value(Sort),
+    Column(Cause),
 }
 
 /// The meetings with a type, with their names in the table.
-const MEETINGS: [(Meeting, &str); 8] = [
+const MEETINGS: [(Meeting, &str); 11] = [
     (Meeting::InHead(Call::ReadVdata), "read vdata"),
     (Meeting::InHead(Call::ReadFields), "fields"),
     (Meeting::InHead(Call::PackVdata), "pack vdata"),
@@ -208,6 +212,9 @@ const MEETINGS: [(Meeting, &str); 8] = [
     (Meeting::Value(Sort::Negative), "negative"),
     (Meeting::Value(Sort::NotANumber), "NaN"),
     (Meeting::Value(Sort::Other), "other"),
+    (Meeting::Column(Cause::ByRecord), "col. by rec"),
+    (Meeting::Column(Cause::ByField), "col. by fld"),
+    (Meeting::Column(Cause::NoRecords), "col. empty"),
 ];
 
 #[derive(Default)]
@@ -257,6 +264,7 @@ impl Call {
             Call::ReadVdata => "read vdata",
             Call::ReadFields => "fields",
             Call::ReadValue => "read value",
+            Call::ReadColumn => "column",
             Call::ListGroup => "list group",
             Call::PackNumberType => "pack type",
             Call::PackDimension => "pack dim",
@@ -295,6 +303,7 @@ impl Call {
             Call::ReadArray | Call::ReadGroup => &[SMALL, RECORD],
             Call::ReadVdata | Call::ReadFields => &[SMALL, RECORD, TYPE],
             Call::ReadValue => &[RECORD, TYPE, NO_VALUE],
+            Call::ReadColumn => &[SMALL, RECORD, TYPE, NO_VALUE],
             Call::ListGroup => &[SMALL, RECORD, DEEP],
             Call::PackNumberType => &[SMALL],
             Call::PackDimension | Call::PackArray | Call::PackGroup => &[SMALL, RECORD],
@@ -307,12 +316,13 @@ impl Call {
 
     /// Whether the call can come to an answer by this cause.
     fn can_come(self, cause: Cause) -> bool {
-        let heads = [Call::ReadVdata, Call::ReadFields, Call::ReadValue, Call::PackVdata];
+        let heads = [Call::ReadVdata, Call::ReadFields, Call::ReadValue, Call::ReadColumn, Call::PackVdata];
+        let values = [Call::ReadValue, Call::ReadColumn];
         let groups = [Call::ReadGroup, Call::ListGroup, Call::PackGroup];
         let interlaced = [Call::ReadDimension, Call::PackDimension];
-        let tabled = [Call::ReadArray, Call::ReadGroup, Call::ReadVdata, Call::ReadFields];
+        let tabled = [Call::ReadArray, Call::ReadGroup, Call::ReadVdata, Call::ReadFields, Call::ReadColumn];
         match cause {
-            Cause::Whole => self.is_on_records() && self != Call::ReadValue && self != Call::ListGroup,
+            Cause::Whole => self.is_on_records() && !values.contains(&self) && self != Call::ListGroup,
             Cause::BytesBehind => [Call::ReadGroup, Call::ReadVdata, Call::ReadFields].contains(&self),
             Cause::Opening | Cause::Absent | Cause::Unstored | Cause::Extended => self.is_on_records() && !self.packs(),
             Cause::Length => [Call::ReadNumberType, Call::ReadDimension, Call::ReadArray].contains(&self),
@@ -328,10 +338,10 @@ impl Call {
             Cause::Size | Cause::Offset | Cause::RecordSize => heads.contains(&self),
             Cause::FirstRoom => self.packs() || tabled.contains(&self),
             Cause::SecondRoom => self == Call::ReadArray || self == Call::ReadVdata,
-            Cause::ByRecord | Cause::ByField | Cause::Record | Cause::Field | Cause::Component => {
-                self == Call::ReadValue
-            }
-            Cause::DataAbsent | Cause::DataUnstored | Cause::DataExtended | Cause::DataShort => self == Call::ReadValue,
+            Cause::Record => self == Call::ReadValue,
+            Cause::NoRecords => self == Call::ReadColumn,
+            Cause::ByRecord | Cause::ByField | Cause::Field | Cause::Component => values.contains(&self),
+            Cause::DataAbsent | Cause::DataUnstored | Cause::DataExtended | Cause::DataShort => values.contains(&self),
             _ => self == Call::ListGroup,
         }
     }
@@ -413,6 +423,11 @@ impl Tally {
     pub fn count_value(&mut self, value: &Value, cause: Cause) {
         self.count_meeting(value.number_type, Meeting::Read(cause));
         self.count_meeting(value.number_type, Meeting::Value(value.sort()));
+    }
+
+    /// A column that was read, and the way to it.
+    pub fn count_column(&mut self, column: &Column, cause: Cause) {
+        self.count_meeting(column.number_type, Meeting::Column(cause));
     }
 
     fn count_meeting(&mut self, code: u16, meeting: Meeting) {

@@ -99,6 +99,14 @@ pub struct Value {
     pub number_type: u16,
 }
 
+/// A column: the kind of its values, the bits of each record's, and the code of their type.
+#[derive(Clone, Debug, PartialEq, Eq)]
+pub struct Column {
+    pub kind: u64,
+    pub bits: Vec<u64>,
+    pub number_type: u16,
+}
+
 /// What sort of number a value is.
 #[derive(Clone, Copy, Debug, PartialEq, Eq)]
 pub enum Sort {
@@ -296,29 +304,68 @@ fn judge_type(code: u16) -> Result<(), Breach> {
 /// The value with the indices of record, field and component.
 pub fn read_value(image: &[u8], opening: &Opening, reference: u16, indices: [u64; 3]) -> Reading<Value> {
     let head = vdata_of(&plain(image, opening, HEAD, reference)?)?.record;
-    let [record, _, component] = indices;
-    let field = asked_field(&head, indices)?;
-    let data = plain(image, opening, DATA, reference).map_err(of_data)?;
-    let (records, record_size) = (u64::from(head.records), u64::from(head.record_size));
-    if (data.bytes.len() as u64) < records * record_size {
-        return data.refuse((RECORD, Cause::DataShort));
-    }
-    let known = type_of(field.number_type).expect("a type that was judged");
-    let size = u64::from(known.size);
-    let (whole, cause) = match head.interlace {
-        0 => (record * record_size + u64::from(field.offset), Cause::ByRecord),
-        _ => (records * u64::from(field.offset) + record * u64::from(field.size), Cause::ByField),
-    };
-    let start = (whole + component * size) as usize;
-    let bits = known.bits(&data.bytes[start..start + size as usize]);
-    Ok((Value { kind: known.kind, bits, number_type: field.number_type }, cause))
-}
-
-/// The field that the indices name, each of them small enough.
-fn asked_field(head: &Vdata, [record, field, component]: [u64; 3]) -> Result<Field, Refused> {
+    let [record, field, component] = indices;
     if record >= head.records.into() {
         return refuse(NO_VALUE, 0, Cause::Record);
     }
+    let field = asked_field(&head, [field, component])?;
+    let data = whole_data(image, opening, reference, &head)?;
+    let Field { number_type, .. } = field;
+    let bits = head.bits(&data, field, record, component);
+    Ok((Value { kind: known_type(number_type).kind, bits, number_type }, head.cause()))
+}
+
+/// A component of a field in every record, by the indices of both.
+pub fn read_column(image: &[u8], opening: &Opening, reference: u16, indices: [u64; 2], room: usize) -> Reading<Column> {
+    let head = vdata_of(&plain(image, opening, HEAD, reference)?)?.record;
+    let field = asked_field(&head, indices)?;
+    let Field { number_type, .. } = field;
+    let kind = known_type(number_type).kind;
+    if head.records == 0 {
+        return Ok((Column { kind, bits: Vec::new(), number_type }, Cause::NoRecords));
+    }
+    let data = whole_data(image, opening, reference, &head)?;
+    judge_rooms(&[head.records as usize], &[room])?;
+    let bits = (0..head.records.into()).map(|record| head.bits(&data, field, record, indices[1])).collect();
+    Ok((Column { kind, bits, number_type }, head.cause()))
+}
+
+/// The data, which have all records.
+fn whole_data<'a>(image: &'a [u8], opening: &Opening, reference: u16, head: &Vdata) -> Result<Plain<'a>, Refused> {
+    let data = plain(image, opening, DATA, reference).map_err(of_data)?;
+    match (data.bytes.len() as u64) < u64::from(head.records) * u64::from(head.record_size) {
+        true => data.refuse((RECORD, Cause::DataShort)),
+        false => Ok(data),
+    }
+}
+
+fn known_type(code: u16) -> Type {
+    type_of(code).expect("a type that was judged")
+}
+
+impl Vdata {
+    /// How the values lie.
+    fn cause(&self) -> Cause {
+        match self.interlace {
+            0 => Cause::ByRecord,
+            _ => Cause::ByField,
+        }
+    }
+
+    /// The bits of a component of a field in a record.
+    fn bits(&self, data: &Plain, field: Field, record: u64, component: u64) -> u64 {
+        let whole = match self.interlace {
+            0 => record * u64::from(self.record_size) + u64::from(field.offset),
+            _ => u64::from(self.records) * u64::from(field.offset) + record * u64::from(field.size),
+        };
+        let known = known_type(field.number_type);
+        let start = (whole + component * u64::from(known.size)) as usize;
+        known.bits(&data.bytes[start..start + usize::from(known.size)])
+    }
+}
+
+/// The field and the component that the indices name, each of them small enough.
+fn asked_field(head: &Vdata, [field, component]: [u64; 2]) -> Result<Field, Refused> {
     let index = usize::try_from(field).unwrap_or(usize::MAX);
     let Some(field) = head.field_list().nth(index) else { return refuse(NO_VALUE, 0, Cause::Field) };
     match component < field.order.into() {

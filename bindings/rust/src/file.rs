@@ -1,7 +1,9 @@
 //! A file in memory that owns its bytes, and the elements of an image one by one.
 
-use crate::{base_tag, list_group, open, read_array, read_dimension, read_group, read_number_type, read_value, read_vdata};
-use crate::{Array, Counts, Dimension, Element, Error, Group, NumberType, Pair, Rule, Value, Vdata, EDIT_ROOM};
+use crate::{base_tag, list_group, open, read_array, read_column, read_dimension, read_group, read_number_type, read_value};
+use crate::{
+    read_vdata, Array, Column, Counts, Dimension, Element, Error, Group, NumberType, Pair, Rule, Value, Vdata, EDIT_ROOM,
+};
 use crate::{CopyError, Link};
 use std::fmt;
 use std::iter::FusedIterator;
@@ -224,6 +226,11 @@ impl File {
     /// Reads one value of a Vdata, as [`read_value`] does. All indices count from 0.
     pub fn value(&self, reference: u16, record: usize, field: usize, component: usize) -> Result<Value, Error> {
         read_value(&self.bytes, reference, record, field, component)
+    }
+
+    /// Reads one component of one field in every record of a Vdata, as [`read_column`] does.
+    pub fn column<'a>(&self, reference: u16, field: usize, component: usize, out: &'a mut [u64]) -> Result<Column<'a>, Error> {
+        read_column(&self.bytes, reference, field, component, out)
     }
 }
 

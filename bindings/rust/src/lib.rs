@@ -21,7 +21,8 @@
 //!
 //! Elements of certain tags are records. [`read_number_type`], [`read_dimension`], [`read_array`], [`read_group`] and
 //! [`read_vdata`] read them; the functions named after `pack` write their bytes, to be stored by [`add`] or [`replace`].
-//! [`read_value`] gives a value of a Vdata, in either [`ByteOrder`]; [`list_group`] all that is below a Vgroup.
+//! [`read_value`] gives a value of a Vdata, in either [`ByteOrder`], and [`read_column`] one of each record; [`list_group`] gives
+//! all that is below a Vgroup.
 //!
 //! # Edits
 //!
@@ -82,8 +83,8 @@ pub use records::{pack_array, pack_dimension, pack_number_type, read_array, read
 pub use records::{Array, Dimension, NumberType, Pair};
 pub use rule::Rule;
 pub use trailer::newest_desk;
-pub use vset::{base_type, list_group, pack_group, pack_vdata, read_group, read_value, read_vdata};
-pub use vset::{ByteOrder, Field, Group, Value, Vdata};
+pub use vset::{base_type, list_group, pack_group, pack_vdata, read_column, read_group, read_value, read_vdata};
+pub use vset::{ByteOrder, Column, Field, Group, Kind, Value, Vdata};
 
 pub use hdf4_sys::{EDIT_ROOM, MOST_BYTES, MOST_ELEMENTS, MOST_FIELDS, MOST_PAIRS, VERSION};
 

@@ -112,20 +112,63 @@ pub enum Value {
     Float64(f64),
 }
 
+/// What the values of a column are.
+#[derive(Clone, Copy, Debug, PartialEq, Eq, Hash)]
+pub enum Kind {
+    /// Each is a [`Value::Signed`].
+    Signed,
+    /// Each is a [`Value::Unsigned`].
+    Unsigned,
+    /// Each is a [`Value::Float32`].
+    Float32,
+    /// Each is a [`Value::Float64`].
+    Float64,
+}
+
+/// One component of one field in every record of a Vdata.
+#[derive(Clone, Copy, Debug, PartialEq, Eq)]
+pub struct Column<'a> {
+    /// What the values are.
+    pub kind: Kind,
+    /// The bits of each, by record: of a signed number its two's complement, of a float its own.
+    pub bits: &'a [u64],
+}
+
 /// What is added to a type whose numbers stand low byte first.
 const LITTLE_ENDIAN: u16 = ffi::LITTLE_ENDIAN as u16;
 
 const GROUP: u16 = 1965;
 const BYTES_OF_A_PAIR: usize = 4;
 
-impl Value {
-    fn new(kind: u64, bits: u64) -> Value {
+impl Kind {
+    fn new(kind: u64) -> Kind {
         match kind {
-            ffi::SIGNED => Value::Signed(bits as i64),
-            ffi::FLOAT32 => Value::Float32(f32::from_bits(bits as u32)),
-            ffi::FLOAT64 => Value::Float64(f64::from_bits(bits)),
-            _ => Value::Unsigned(bits),
+            ffi::SIGNED => Kind::Signed,
+            ffi::FLOAT32 => Kind::Float32,
+            ffi::FLOAT64 => Kind::Float64,
+            _ => Kind::Unsigned,
         }
+    }
+
+    /// The value of this kind that has these bits.
+    ///
+    /// ```
+    /// assert_eq!(hdf4::Kind::Signed.value(u64::MAX), hdf4::Value::Signed(-1));
+    /// ```
+    pub fn value(self, bits: u64) -> Value {
+        match self {
+            Kind::Signed => Value::Signed(bits as i64),
+            Kind::Unsigned => Value::Unsigned(bits),
+            Kind::Float32 => Value::Float32(f32::from_bits(bits as u32)),
+            Kind::Float64 => Value::Float64(f64::from_bits(bits)),
+        }
+    }
+}
+
+impl<'a> Column<'a> {
+    /// The values in order of the records.
+    pub fn values(self) -> impl ExactSizeIterator<Item = Value> + DoubleEndedIterator + 'a {
+        self.bits.iter().map(move |&bits| self.kind.value(bits))
     }
 }
 
@@ -228,7 +271,43 @@ pub fn pack_vdata(vdata: &Vdata, out: &mut [u8]) -> Result<usize, Error> {
 /// Reads one value of a Vdata. All indices count from 0.
 pub fn read_value(image: &[u8], reference: u16, record: usize, field: usize, component: usize) -> Result<Value, Error> {
     let a = ffi::read_value(image, reference, record as u64, field as u64, component as u64);
-    granted(a.number, a.place, Value::new(a.kind, a.bits))
+    granted(a.number, a.place, Kind::new(a.kind).value(a.bits))
+}
+
+/// Reads one component of one field in every record of a Vdata to the front of `out`, which has room for an entry a record; what
+/// stands behind stays as it was. Each value is the one that [`read_value`] gives, and the image is opened once for all of them.
+///
+/// A Vdata without records has a column without values, also where there is no element of them.
+///
+/// ```
+/// # fn main() -> Result<(), hdf4::Error> {
+/// # use hdf4::{Field, Pair, Value, Vdata};
+/// // A Vdata of two records, each of one signed number of 16 bits.
+/// let fields = vec![Field { name: b"height", number_type: 22, size: 2, offset: 0, order: 1 }];
+/// let (name, class, extension) = (b"roads", b"", Pair { tag: 0, reference: 0 });
+/// let roads = Vdata { interlace: 0, records: 2, record_size: 2, fields, name, class, extension, version: 3, more: 0 };
+/// let mut head = [0; 100];
+/// let length = hdf4::pack_vdata(&roads, &mut head)?;
+/// let mut file = hdf4::File::new(b"\x0e\x03\x13\x01\0\0\0\0\0\0".to_vec())?;
+/// file.add(0, 1962, 7, &head[..length])?;
+/// file.add(0, 1963, 7, b"\xff\xfe\x01\x2c")?;
+///
+/// let mut out = vec![0; roads.records as usize];
+/// let column = hdf4::read_column(file.bytes(), 7, 0, 0, &mut out)?;
+/// assert!(column.values().eq([Value::Signed(-2), Value::Signed(300)]));
+/// # Ok(())
+/// # }
+/// ```
+pub fn read_column<'a>(
+    image: &[u8],
+    reference: u16,
+    field: usize,
+    component: usize,
+    out: &'a mut [u64],
+) -> Result<Column<'a>, Error> {
+    let a = ffi::read_column(image, reference, field as u64, component as u64, out);
+    let records = granted(a.number, a.place, a.records as usize)?;
+    Ok(Column { kind: Kind::new(a.kind), bits: &out[..records] })
 }
 
 #[cfg(test)]
@@ -346,6 +425,30 @@ mod tests {
                 assert_eq!(rule(read_value(&image, 7, record, field, component)), (Rule::NoValue, 17, 0));
             }
         }
+    }
+
+    #[test]
+    fn a_column_is_the_values_of_its_records() {
+        let columns = [(0, 0, [-2_i64 as u64, 300]), (1, 0, [0x3fc0_0000, 0]), (1, 1, [0x7f80_0001, 0x8000_0000])];
+        for image in ORDERS.iter().flat_map(|order| [0, 1].map(|interlace| file_of_values(*order, interlace))) {
+            for (field, component, bits) in columns {
+                let mut out = [9; 3];
+                let column = read_column(&image, 7, field, component, &mut out).unwrap();
+                assert_eq!(column.bits, bits);
+                let values = [0, 1].map(|record| read_value(&image, 7, record, field, component).unwrap());
+                assert_eq!(format!("{:?}", column.values().collect::<Vec<_>>()), format!("{values:?}"));
+                assert_eq!(out[2], 9);
+                let mut small = [9; 1];
+                assert_eq!(rule(read_column(&image, 7, field, component, &mut small)), (Rule::Small, 14, 0));
+                assert_eq!(small, [9]);
+            }
+            for [field, component] in [[2, 0], [1, 2], [usize::MAX, 0]] {
+                assert_eq!(rule(read_column(&image, 7, field, component, &mut [])), (Rule::NoValue, 17, 0));
+            }
+        }
+        // No records need no element of values.
+        let image = file_of(&[(1962, 7, &packed_head(&Vdata { records: 0, ..vdata(ByteOrder::BigEndian) }))]);
+        assert_eq!(read_column(&image, 7, 1, 1, &mut []), Ok(Column { kind: Kind::Float32, bits: &[] }));
     }
 
     /// Every base type with a number of it: its bytes, high byte first, and its value.

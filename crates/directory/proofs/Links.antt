@@ -1,5 +1,6 @@
 -- Blocks followed by their links, each from the one before it in the image: their slots, the last one, and a search. Assumes nothing.
 use Prim.Native.Nat.{ℕ, zero, suc, _+_, _-_, _<_, _≤_}
+use native.Mathlib.Numerals.{add-one}
 use native.Mathlib.Omega.{arith}
 use mathlib.Core.Path.{_≡_, refl, sym, ap, _∙_}
 use mathlib.Core.List.{List, [], _∷_, _++_}
@@ -11,7 +12,7 @@ use Rattle.directory.specs.Blocks.{slotCount, nextBlock}
 use Rattle.directory.specs.Slots.{rows, slotPlaces}
 use Rattle.directory.specs.Links.{slotsAfter, lastOf, blockAfter, blocksAfter}
 use Rattle.directory.specs.Rules.{Linked}
-use Rattle.answer.proofs.Links.{along-none, along-end, along-hit, along-next}
+use Rattle.answer.proofs.Links.{link-none, link-next, along-none, along-end, along-hit, along-next}
 
 -- the slots of the blocks
 pub slots-along : (s : List ℕ) (k b : ℕ) → slotPlaces s (blocksAfter s k b) ≡ slotsAfter s k b
@@ -64,3 +65,19 @@ module _ (s : List ℕ) (f : ℕ → Bool) (blocks b left : ℕ) (w : Following 
 
     pub follow-next : f b ≡ false → nextBlock s b < 4294967296 → Following s f blocks (nextBlock s b) (left - 1)
     follow-next e low = record { low = low; decides = sym (along-next (nextBlock s) f left b more e) ∙ w .decides }
+
+-- nothing is found before a block, where the test fails of each block before it
+module _ (s : List ℕ) (f : ℕ → Bool) (blocks : ℕ) where
+  pub follow-skip : (j : ℕ) → j ≤ blocks → ((i : ℕ) → i < j → f (blockAfter s i 4) ≡ false)
+      → any f (blocksAfter s (blocks - j) (blockAfter s j 4)) ≡ any f (blocksAfter s blocks 4)
+  follow-skip zero le h =
+      let n : blocks - 0 ≡ blocks = omega arith in
+      rw (n, link-none (nextBlock s) 0 4 refl) refl
+  follow-skip (suc j) le h =
+      let b = blockAfter s j 4 in
+      let n : blocks - suc j ≡ blocks - j - 1 = omega arith in
+      let next : blockAfter s (suc j) 4 ≡ nextBlock s b = ap (λ k. blockAfter s k 4) (sym (add-one j)) ∙ link-next (nextBlock s) j 4 in
+      ap (λ k. any f (blocksAfter s k (blockAfter s (suc j) 4))) n
+      ∙ ap (λ c. any f (blocksAfter s (blocks - j - 1) c)) next
+      ∙ sym (along-next (nextBlock s) f (blocks - j) b (omega arith) (h j (omega arith)))
+      ∙ follow-skip j (omega arith) (λ i k. h i (omega arith))

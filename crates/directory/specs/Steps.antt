@@ -2,5 +2,8 @@
 pub mod Cursors
 pub mod Chains
 pub mod Gaps
-pub mod References
+pub mod Keys
+pub mod Doubts
+pub mod Checks
 pub mod Opens
+pub mod Resuming

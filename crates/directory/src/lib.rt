@@ -1,11 +1,14 @@
 // The directory of an HDF4 image: data descriptor blocks and their slots. Opening is the door that every call goes through first.
 mod chain;
-mod cursor;
+pub mod cursor;
+mod doubts;
 pub mod format;
 mod gap;
-mod highest;
+mod inside;
+mod key;
 pub mod listing;
 pub mod places;
+pub mod resume;
 mod slot;
 
 use answer::Refusal;
@@ -13,21 +16,24 @@ use answer::refusals::ABSENT;
 use answer::refusals::NOT_HDF;
 use answer::refusals::TOO_LONG;
 use answer::refusals::TWICE;
+use chain::Shape;
 use chain::Walked;
 use cursor::Cursor;
 use format::FREE;
 use format::MAGIC;
 use format::MOST_BYTES;
 use gap::Gap;
-use highest::Highest;
+use key::Key;
 ghost use mathlib.Core.Path.{_≡_};
-ghost use mathlib.Core.Bool.{true};
 ghost use mathlib.Core.List.{[]};
 ghost use lib.ListN.{length};
 ghost use Rattle.directory.specs.Opening.{openedNumbers, refusalOf, headed, slotsFrom, openOf};
 ghost use Rattle.directory.specs.Lookup.{foundNumbers, hitFound, findIn, findOf};
 ghost use Rattle.directory.specs.Links.{slotsAfter, blocksAfter};
-ghost use Rattle.directory.specs.Steps.Chains.{Rising};
+ghost use Rattle.directory.specs.Steps.Chains.{Laid, InChain};
+ghost use Rattle.directory.specs.Steps.Gaps.{Placed};
+ghost use Rattle.directory.specs.Steps.Doubts.{Sound};
+ghost use Rattle.directory.specs.Steps.Checks.{Reached, Checks};
 
 // How many blocks and slots the chain has, and how many of the slots are live.
 pub struct Counts {
@@ -56,53 +62,100 @@ fn is_hdf(image: &[u8]) -> bool
     wire::read32(image, 0) == MAGIC
 }
 
-// The rules of all slots, in chain order, and how many are live. Earlier slots and blocks that cannot matter are not searched.
-fn check_slots(image: &[u8], blocks: usize, slots: usize, rising: bool) -> Opened
-    requires { ⌜ (length (slotsAfter (now image) blocks 4) ≡ slots) × (rising ≡ true → Rising (now image) blocks) ⌝ }
-    ensures { λ r. ⌜ (let s = now (image .entry) in
-        openedNumbers r ≡ slotsFrom s (blocksAfter s blocks 4) [] (slotsAfter s blocks 4) 0) ⌝ }
+// What the rules of slots came to: the number of the first that is broken, 0 where none is, and its slot; how many slots are live; and a gap.
+pub struct Checked {
+    pub fault: usize,
+    pub place: usize,
+    pub live: usize,
+    pub gap: Gap,
+}
+
+fn so_far(fault: usize, place: usize, live: usize, gap: Gap) -> Checked
+    ensures { λ r. ⌜ r ≡ record { fault = fault; place = place; live = live; gap = gap } ⌝ }
 {
-    let all = Highest::start(image, blocks);
-    let mut highest = all;
-    let mut at = all.at;
-    let mut gap = Gap { low: 4, high: 0 };
-    let mut passed = 0;
-    let mut live = 0;
+    Checked {
+        fault,
+        place,
+        live,
+        gap,
+    }
+}
+
+// The rules of the slots of a block, after so many others, in which so many are live. Earlier slots are searched where there is a doubt.
+fn check_block(
+    image: &[u8],
+    shape: Shape,
+    before: usize,
+    b: usize,
+    checked: Checked,
+    doubts: &[u64; 8],
+) -> Checked
+    requires { ⌜ Laid (now image) shape × InChain (now image) (shape .blocks) before b × Placed (now image) (shape .blocks) (checked .gap)
+        × Sound (now image) (shape .blocks) (now doubts) × Reached (now image) (shape .blocks) before (checked .live) ⌝ }
+    ensures { λ r. ⌜ Checks (now (image .entry)) (shape .blocks) before r ⌝ }
+{
+    let own = Gap::behind(image, shape, before, b);
+    let count = inside::read16(image, b);
+    let mut live = checked.live;
+    let mut gap = checked.gap;
+    let mut i = 0;
     'slots: loop {
-        if passed == slots {
-            break 'slots Opened::Accepted(Counts {
-                blocks,
-                slots,
-                live,
-            });
+        if i == count {
+            break 'slots so_far(0, 0, live, gap);
         }
-        let p = at.place;
-        if wire::read16(image, p) != FREE {
-            let judged = slot::element_fault(image, blocks, rising, gap, at);
-            let number = judged.rule;
-            if number != 0 {
-                break 'slots Opened::Refused(Refusal { number, place: p });
+        let p = b + 6 + 12 * i;
+        if inside::read16(image, p) != FREE {
+            let judged = slot::element_fault(image, shape, own, gap, p);
+            if judged.rule != 0 {
+                break 'slots so_far(judged.rule, p, live, gap);
             }
             gap = judged.gap;
-            highest = highest.with(image, passed, at);
-            let from = highest.search_from(image, p, all);
-            let mut earlier = from.at;
-            let mut i = from.index;
-            while i < passed {
-                if slot::clashes(image, p, earlier.place) {
-                    break 'slots Opened::Refused(Refusal {
-                        number: TWICE,
-                        place: p,
-                    });
+            let key = Key::of(image, p);
+            if key.is_among(image, b + 6, doubts::to_search(doubts, key, i)) {
+                break 'slots so_far(TWICE, p, live, gap);
+            }
+            let mut earlier = 4;
+            let mut left = doubts::to_search(doubts, key, before);
+            while 0 < left {
+                if key.is_among(image, earlier + 6, inside::read16(image, earlier)) {
+                    break 'slots so_far(TWICE, p, live, gap);
                 }
-                earlier = earlier.advanced(image);
-                i += 1;
+                earlier = inside::read32(image, earlier + 2);
+                left -= 1;
             }
             live += 1;
         }
-        at = at.advanced(image);
-        passed += 1;
+        i += 1;
     }
+}
+
+// The rules of all slots, in chain order, and how many are live.
+fn check_slots(image: &[u8], shape: Shape) -> Opened
+    requires { ⌜ (length (slotsAfter (now image) (shape .blocks) 4) ≡ shape .slots) × Laid (now image) shape ⌝ }
+    ensures { λ r. ⌜ (let s = now (image .entry) in
+        openedNumbers r ≡ slotsFrom s (blocksAfter s (shape .blocks) 4) [] (slotsAfter s (shape .blocks) 4) 0) ⌝ }
+{
+    let mut doubts = [0; 8];
+    doubts::find(image, shape, &mut doubts);
+    let mut checked = so_far(0, 0, 0, Gap::none(shape));
+    let mut b = 4;
+    let mut before = 0;
+    while before < shape.blocks {
+        checked = check_block(image, shape, before, b, checked, &doubts);
+        if checked.fault != 0 {
+            return Opened::Refused(Refusal {
+                number: checked.fault,
+                place: checked.place,
+            });
+        }
+        b = inside::read32(image, b + 2);
+        before += 1;
+    }
+    Opened::Accepted(Counts {
+        blocks: shape.blocks,
+        slots: shape.slots,
+        live: checked.live,
+    })
 }
 
 // Opens an image: the counts of its chain, or the first rule that it breaks.
@@ -124,11 +177,7 @@ pub fn open(image: &[u8]) -> Opened
     let walked = chain::walk(image);
     match walked {
         Walked::Broken(fault) => Opened::Refused(fault),
-        Walked::Whole {
-            blocks,
-            slots,
-            rising,
-        } => check_slots(image, blocks, slots, rising),
+        Walked::Whole(shape) => check_slots(image, shape),
     }
 }
 

@@ -9,7 +9,7 @@ use Rattle.wire.specs.Numbers.{part}
 use Rattle.storage.specs.Views.{bytesOf}
 use Rattle.storage.specs.Choices.{chosenBytes}
 use Rattle.storage.proofs.CopyRules.{copy-shape}
-use Rattle.hdf4.specs.Calls.{AnyCall, hdf4-open, hdf4-find, hdf4-list, hdf4-view, hdf4-size, hdf4-copy, hdf4-choose, hdf4-add, hdf4-replace, hdf4-remove, hdf4-undo, hdf4-read-number-type, hdf4-read-dimension, hdf4-read-array, hdf4-read-group, hdf4-list-group, hdf4-read-vdata, hdf4-read-fields, hdf4-read-value, hdf4-pack, Memory, numbers, structs, contractOf, Untouched}
+use Rattle.hdf4.specs.Calls.{AnyCall, hdf4-open, hdf4-find, hdf4-list, hdf4-view, hdf4-size, hdf4-copy, hdf4-choose, hdf4-add, hdf4-replace, hdf4-remove, hdf4-undo, hdf4-read-number-type, hdf4-read-dimension, hdf4-read-array, hdf4-read-group, hdf4-list-group, hdf4-read-vdata, hdf4-read-fields, hdf4-read-value, hdf4-read-column, hdf4-pack, Memory, numbers, structs, contractOf, Untouched}
 use Rattle.hdf4.proofs.Proper
 
 -- ---- Every call
@@ -40,6 +40,7 @@ shape (hdf4-list-group s ref list) = (Proper.listing-proper s ref _, λ e. refl)
 shape (hdf4-read-vdata s ref fields names) = (Proper.head-proper s ref _, λ e. refl)
 shape (hdf4-read-fields s ref table) = (Proper.head-proper s ref _, λ e. refl)
 shape (hdf4-read-value s ref r i c) = (Proper.value-proper s ref r i c, λ e. refl)
+shape (hdf4-read-column s ref i c out) = (Proper.column-proper s ref i c _, λ e. refl)
 shape (hdf4-pack fault bytes out) = (Proper.pack-proper fault bytes _, λ e. refl)
 
 untouched : (answer : Answer) → (answer .number ≡ 0 → ⊥) → (memory : List Memory) → Untouched answer memory

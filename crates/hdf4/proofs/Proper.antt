@@ -1,5 +1,5 @@
 -- Every call's answer has its shape: place 0 where it is granted, zeros beside number and place where it is refused. Assumes nothing.
-use Prim.Native.Nat.{ℕ}
+use Prim.Native.Nat.{ℕ, zero, suc}
 use native.Mathlib.Nat.{suc-ne-zero}
 use mathlib.Core.Path.{_≡_, refl}
 use mathlib.Core.Logic.{inl, inr}
@@ -30,6 +30,7 @@ use Rattle.vgroup.specs.Groups.{groupAt, groupOf}
 use Rattle.vgroup.specs.Listings.{listingAt, listingOf}
 use Rattle.vhead.specs.Heads.{headAt, headWithin}
 use Rattle.vdata.specs.Values.{valueAfter, valueFound, valueOf}
+use Rattle.vdata.specs.Columns.{columnGiven, columnAfter, columnFound, columnOf}
 use Rattle.journal.specs.Outcomes.{Outcome, granted, refused, outcomeAnswer}
 use Rattle.journal.specs.Buffers.{addIn, replaceIn, removeIn, undoIn}
 use Rattle.journal.proofs.Outcomes.{Positive}
@@ -135,6 +136,15 @@ pub value-proper : (s : List ℕ) (ref r i c : ℕ) → Proper 2 (valueOf s ref 
 unfolding valueOf valueFound valueAfter
 value-proper s ref r i c =
     opened-proper 2 s _ (record-proper 2 s _ _ _ (λ at e. proper-unless 2 _ 0 _ (record-proper 2 s _ _ _ (λ at v. proper-grant 2 _))))
+
+given-proper : (s e : List ℕ) (values : Hit) (i room n : ℕ) → Proper 2 (columnGiven s e values i room n)
+unfolding columnGiven
+given-proper s e values i room zero = proper-grant 2 _
+given-proper s e values i room (suc n) = record-proper 2 s _ _ _ (λ at v. proper-room 2 _ _ (proper-grant 2 _))
+
+pub column-proper : (s : List ℕ) (ref i c room : ℕ) → Proper 2 (columnOf s ref i c room)
+unfolding columnOf columnFound columnAfter
+column-proper s ref i c room = opened-proper 2 s _ (record-proper 2 s _ _ _ (λ at e. proper-unless 2 _ 0 _ (given-proper s e _ i room _)))
 
 -- ---- Edits and undo
 

@@ -28,6 +28,7 @@ use Rattle.vgroup.specs.Listings.{listingOf, pairsOf}
 use Rattle.vhead.specs.Limits.{head-tag}
 use Rattle.vhead.specs.Heads.{headOf, headWithin, headFields, headNames}
 use Rattle.vdata.specs.Values.{valueOf}
+use Rattle.vdata.specs.Columns.{columnOf, columnBits}
 use Rattle.hdf4.specs.FieldTable.{structsOf}
 use Rattle.hdf4.specs.declared.field_table.Field.{Field}
 
@@ -53,6 +54,7 @@ pub data AnyCall : Type 0 where
   hdf4-read-vdata : List ℕ → ℕ → List ℕ → List ℕ → AnyCall
   hdf4-read-fields : List ℕ → ℕ → List Field → AnyCall
   hdf4-read-value : List ℕ → ℕ → ℕ → ℕ → ℕ → AnyCall
+  hdf4-read-column : List ℕ → ℕ → ℕ → ℕ → List ℕ → AnyCall
   hdf4-pack : ℕ → List ℕ → List ℕ → AnyCall
 
 -- memory that is lent to be written to: what a granted call gives there, and what it holds before
@@ -112,6 +114,7 @@ contractOf (hdf4-read-vdata s ref fields names) =
     filling 12 (headOf s ref (length fields) (length names)) (numbers (headFields e) fields ∷ numbers (headNames (startOf s found) e) names ∷ [])
 contractOf (hdf4-read-fields s ref table) = filling 12 (headWithin s ref (length table)) (structs (structsOf s ref) table ∷ [])
 contractOf (hdf4-read-value s ref r i c) = answering 2 (valueOf s ref r i c)
+contractOf (hdf4-read-column s ref i c out) = filling 2 (columnOf s ref i c (length out)) (numbers (columnBits s ref i c) out ∷ [])
 contractOf (hdf4-pack fault bytes out) = filling 1 (packOf fault bytes (length out)) (numbers bytes out ∷ [])
 
 -- all lent memory is as it was after the call

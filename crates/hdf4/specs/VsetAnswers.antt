@@ -16,6 +16,7 @@ use Rattle.vdata.specs.declared.value.Value.the-variants.{Signed, Unsigned, Flo
 use Rattle.hdf4.specs.declared.vset_calls.GroupAnswer.{GroupAnswer}
 use Rattle.hdf4.specs.declared.vset_calls.VdataAnswer.{VdataAnswer}
 use Rattle.hdf4.specs.declared.vset_calls.ValueAnswer.{ValueAnswer}
+use Rattle.hdf4.specs.declared.vset_calls.ColumnAnswer.{ColumnAnswer}
 use Rattle.hdf4.specs.declared.vset_calls.PairsAnswer.{PairsAnswer}
 
 abbrev pub groupAnswer : GroupAnswer → Answer
@@ -45,6 +46,9 @@ NamesFit (Refused r) = r .number ≡ 0 → ⊥
 
 abbrev pub valueAnswer : ValueAnswer → Answer
 valueAnswer r = record { number = r .number; place = r .place; values = r .kind ∷ r .bits ∷ [] }
+
+abbrev pub columnAnswer : ColumnAnswer → Answer
+columnAnswer r = record { number = r .number; place = r .place; values = r .kind ∷ r .records ∷ [] }
 
 abbrev pub pairsAnswer : PairsAnswer → Answer
 pairsAnswer r = record { number = r .number; place = r .place; values = r .pairs ∷ [] }

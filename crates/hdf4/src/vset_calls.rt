@@ -1,6 +1,7 @@
 // The C interface of Vgroups and Vdatas.
 use super::record_calls::PackAnswer;
 use super::record_calls::pack_answer;
+use vdata::column;
 use vdata::value;
 use vdata::value::Value;
 use vgroup::group;
@@ -24,8 +25,9 @@ ghost use Rattle.vhead.specs.Limits.{head-tag};
 ghost use Rattle.vhead.specs.Heads.{headOf, ReadsHead, headNumbers, headBytes, headPackFault};
 ghost use Rattle.vdata.specs.Patterns.{complement, valueKind, valueBits};
 ghost use Rattle.vdata.specs.Values.{valueOf};
+ghost use Rattle.vdata.specs.Columns.{columnOf, columnBits};
 ghost use Rattle.hdf4.specs.RecordAnswers.{packAnswer};
-ghost use Rattle.hdf4.specs.VsetAnswers.{groupAnswer, vdataAnswer, valueAnswer, HasBits, pairsAnswer, NamesFit, endingFrom, startFrom};
+ghost use Rattle.hdf4.specs.VsetAnswers.{groupAnswer, vdataAnswer, valueAnswer, columnAnswer, HasBits, pairsAnswer, NamesFit, endingFrom, startFrom};
 
 // A Vgroup; its members are in the table.
 #[repr(C)]
@@ -92,6 +94,17 @@ pub struct ValueAnswer {
     pub kind: u64,
     // Of a signed number its two's complement in 64 bits, of a float its own bits.
     pub bits: u64,
+}
+
+// What was read of a column of a Vdata.
+#[repr(C)]
+pub struct ColumnAnswer {
+    pub number: u64,
+    pub place: u64,
+    // `SIGNED`, `UNSIGNED`, `FLOAT32` or `FLOAT64`: that of every value.
+    pub kind: u64,
+    // How many records: values that were written.
+    pub records: u64,
 }
 
 // C: hdf4_group_list_answer. What was listed of a Vgroup.
@@ -330,6 +343,37 @@ pub extern "C" fn hdf4_read_value(
             place: r.place as u64,
             kind: 0,
             bits: 0,
+        },
+    }
+}
+
+// Reads one component of one field in every record of a Vdata, in order: the bits of each value, as hdf4_read_value gives them. There
+// must be room for a value of every record. A Vdata without records has a column without values, and needs no data of tag 1963.
+#[no_mangle]
+pub extern "C" fn hdf4_read_column(
+    image: &[u8],
+    reference: u16,
+    field: u64,
+    component: u64,
+    out: &mut [u64],
+) -> ColumnAnswer
+    ensures { λ r. ⌜ (let s = now (image .entry) in
+        Does (columnOf s reference field component (length (now (out .entry)))) (columnBits s reference field component)
+        (now (out .entry)) (now (out .exit)) (columnAnswer r)) ⌝ }
+{
+    let answered = column::read(image, reference, field, component, out);
+    match answered {
+        column::Answered::Column { kind, records } => ColumnAnswer {
+            number: 0,
+            place: 0,
+            kind,
+            records: records as u64,
+        },
+        column::Answered::Refused(r) => ColumnAnswer {
+            number: r.number as u64,
+            place: r.place as u64,
+            kind: 0,
+            records: 0,
         },
     }
 }

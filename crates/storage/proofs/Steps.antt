@@ -4,11 +4,10 @@ use native.Mathlib.Nat.{suc-ne-zero, add-zero, not-suc-le-zero}
 use native.Mathlib.Omega.{arith}
 use mathlib.Core.Path.{_≡_, refl, sym, ap, _∙_}
 use mathlib.Core.List.{List, [], _∷_, _++_}
-use mathlib.Core.Bool.{Bool, true, false, false≢true}
+use mathlib.Core.Bool.{true, false, false≢true}
 use mathlib.Core.Logic.{inl, inr}
 use lib.Dec.{eqb}
-use lib.ListN.{length, getD, set, length-set}
-use lib.Seq.{getD-set-same, getD-set-other}
+use lib.ListN.{length}
 use borrow.Author.Count.{below-more}
 use borrow.Author.Tests.{ne-eqb}
 use Rattle.answer.specs.Search.{any}
@@ -17,6 +16,8 @@ use Rattle.answer.proofs.Tests.{same?}
 use Rattle.answer.proofs.Links.{link-next, links-snoc, length-links, along-none}
 use Rattle.wire.specs.Numbers.{put}
 use Rattle.wire.proofs.Numbers.{put-put, length-put}
+use Rattle.marks.specs.Marks.{marked, withMark}
+use Rattle.marks.proofs.Marks.{mark-length, own-mark, mark-kept}
 use Rattle.storage.specs.Tables.{nextOf, tableAfter, tablesAfter, linkedBytes, nextTable, blockRef, tableFault, linkedBlockFault, blockBytes}
 use Rattle.storage.specs.Walks.{share, Walk, breaks, joined, andThen, blocksFrom, tablesFrom, chainOf}
 use Rattle.storage.specs.Steps.{nextFault, Marked, Took}
@@ -119,28 +120,24 @@ module _ (s : List ℕ) (d : Description) (t : List ℕ) (first missing : ℕ) (
 -- ---- The tables of a chain
 
 -- one table more has set its mark
-marked-more : (s : List ℕ) (first count : ℕ) (marks : List Bool) → Marked s first count marks → (ref : ℕ) → tableAfter s count first ≡ ref
-    → Marked s first (count + 1) (set marks (ref % 251) true)
+marked-more : (s : List ℕ) (first count : ℕ) (marks : List ℕ) → Marked s first count marks → (ref : ℕ) → tableAfter s count first ≡ ref
+    → Marked s first (count + 1) (withMark marks (ref % 251))
 marked-more s first count marks w ref e =
-    let own : getD (set marks (ref % 251) true) (ref % 251) false ≡ true = getD-set-same marks (ref % 251) true false (omega (arith, w .long)) in
     record {
-      long = length-set marks (ref % 251) true ∙ w .long;
-      set = below-more (λ i. getD (set marks (ref % 251) true) (tableAfter s i first % 251) false ≡ true) count
-          (λ i k. elim (same? (tableAfter s i first % 251) (ref % 251)) [
-            | inl q ↦ rw q own
-            | inr other ↦ getD-set-other marks (ref % 251) (tableAfter s i first % 251) true false other ∙ w .set i k
-          ])
-          (rw e own);
+      long = mark-length marks (ref % 251) ∙ w .long;
+      set = below-more (λ i. marked (withMark marks (ref % 251)) (tableAfter s i first % 251) ≡ true) count
+          (λ i k. mark-kept marks (ref % 251) _ (w .set i k))
+          (rw e (own-mark marks (ref % 251) (omega (arith, w .long))));
     }
 
 -- a table whose mark is not set is none of those walked
-pub unmarked : (s : List ℕ) (first count : ℕ) (marks : List Bool) → Marked s first count marks → (ref : ℕ) → getD marks (ref % 251) false ≡ false
+pub unmarked : (s : List ℕ) (first count : ℕ) (marks : List ℕ) → Marked s first count marks → (ref : ℕ) → marked marks (ref % 251) ≡ false
     → any (eqb ref) (tablesAfter s count first) ≡ false
 unmarked s first count marks w ref e =
     along-none (nextOf s) (eqb ref) count first (λ i k. ne-eqb ref (tableAfter s i first) (λ q. false≢true (sym e ∙ rw q (w .set i k))))
 
 -- after some tables: what is left of the walk is what the walk comes to
-pub record Following (s : List ℕ) (d : Description) (out₀ : List ℕ) (marks : List Bool) (count ref index left : ℕ) (out : List ℕ) : Type 0 where
+pub record Following (s : List ℕ) (d : Description) (out₀ : List ℕ) (marks : List ℕ) (count ref index left : ℕ) (out : List ℕ) : Type 0 where
   pub few : count ≤ 256
   pub marked : Marked s (d .table) count marks
   pub here : tableAfter s count (d .table) ≡ ref
@@ -152,7 +149,7 @@ pub record Following (s : List ℕ) (d : Description) (out₀ : List ℕ) (marks
   pub rest : tablesFrom s d (256 - count) (tablesAfter s count (d .table)) ref index left .left ≡ chainOf s d .left
   pub bytes : put out (d .length - left) (tablesFrom s d (256 - count) (tablesAfter s count (d .table)) ref index left .bytes) ≡ put out₀ 0 (chainOf s d .bytes)
 
-pub following-start : (s : List ℕ) (d : Description) (marks : List Bool) (out : List ℕ) → length marks ≡ 251 → Following s d out marks 0 (d .table) 0 (d .length) out
+pub following-start : (s : List ℕ) (d : Description) (marks : List ℕ) (out : List ℕ) → length marks ≡ 4 → Following s d out marks 0 (d .table) 0 (d .length) out
 unfolding chainOf linkAfter linksAfter
 following-start s d marks out h =
     let z : d .length - d .length ≡ 0 = omega arith in
@@ -169,7 +166,7 @@ following-start s d marks out h =
       bytes = ap (λ a. put out a (chainOf s d .bytes)) z;
     }
 
-module _ (s : List ℕ) (d : Description) (out₀ : List ℕ) (marks : List Bool) (count ref index left : ℕ) (out : List ℕ) (w : Following s d out₀ marks count ref index left out) where
+module _ (s : List ℕ) (d : Description) (out₀ : List ℕ) (marks : List ℕ) (count ref index left : ℕ) (out : List ℕ) (w : Following s d out₀ marks count ref index left out) where
   -- where the walk stops
   ended : (f i : ℕ) → tablesFrom s d (256 - count) (tablesAfter s count (d .table)) ref index left ≡ breaks f i left
       → Took (chainOf s d) 0 out₀ out (record { left = left; fault = f; index = i })
@@ -241,7 +238,7 @@ module _ (s : List ℕ) (d : Description) (out₀ : List ℕ) (marks : List Bool
             }
 
         pub following-next : r .fault ≡ 0 → d .entries < 4294967296
-            → Following s d out₀ (set marks (ref % 251) true) (count + 1) (nextTable (linkedBytes s ref)) (index + d .entries) (r .left) after
+            → Following s d out₀ (withMark marks (ref % 251)) (count + 1) (nextTable (linkedBytes s ref)) (index + d .entries) (r .left) after
         unfolding onward
         following-next z small =
             let v = blocksFrom s d (linkedBytes s ref) (d .entries) 0 index left in

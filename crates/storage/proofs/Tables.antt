@@ -3,31 +3,37 @@ use Prim.Native.Nat.{ℕ, _+_, _*_, _<_, _≤_}
 use native.Mathlib.Omega.{arith}
 use mathlib.Core.Path.{_≡_, refl, sym, ap, _∙_}
 use mathlib.Core.Logic.{inl, inr}
-use mathlib.Core.List.{List, []}
-use mathlib.Core.Bool.{Bool, true, false, not}
+use mathlib.Core.List.{List, [], _∷_}
+use mathlib.Core.Bool.{Bool, true, false, not, false≢true}
 use lib.Dec.{eqb}
-use lib.ListN.{length, take, drop, replicate}
+use lib.ListN.{length, take, drop, replicate, set, length-set}
 use lib.Seq.{take-take}
 use borrow.Author.Tests.{le-leb, lt-leb, eqb-true, eq-eqb, ne-eqb}
-use Rattle.answer.specs.Search.{any}
-use Rattle.answer.specs.declared.Refusal.{Refusal}
-use Rattle.answer.proofs.Tests.{on-true, on-false, and-split, fails, same?}
+use Rattle.answer.specs.Search.{any, hit}
+use Rattle.answer.proofs.Tests.{on-true, on-false, and-split, fails, test, same?}
 use Rattle.answer.proofs.Search.{must-holds, must-fails, pass}
 use Rattle.wire.specs.Numbers.{part, put}
 use Rattle.directory.specs.Opening.{openOf}
-use Rattle.directory.specs.Lookup.{find, findIn}
+use Rattle.directory.specs.Slots.{sizeAt}
+use Rattle.directory.specs.Lookup.{find}
+use Rattle.directory.specs.Rules.{Unstored, IsStored}
+use Rattle.directory.specs.Steps.Cursors.{ahead, Stands}
 use Rattle.directory.specs.Steps.Opens.{Opens}
+use Rattle.directory.specs.Steps.Resuming.{headOf, resumed}
+use Rattle.directory.specs.declared.cursor.Cursor.{Cursor}
+use Rattle.directory.proofs.Cursors.{stands-self}
 use Rattle.directory.proofs.Opens.{opened-find}
+use Rattle.directory.proofs.Resuming.{stands-hit, stands-miss, resumed-on, resumed-finds, past-on}
 use Rattle.storage.specs.Limits.{linked-tag}
-use Rattle.storage.specs.Elements.{plainOnly, locatedAt, bytesAt}
+use Rattle.storage.specs.Elements.{extendedAt, startAt, elementAt, plainOnly, locatedAt, bytesAt}
 use Rattle.storage.specs.Tables.{tablesAfter, linkedAt, isThere, linkedBytes, linkFault, tableFault, neverWritten, linkedBlockFault, blockBytes}
-use Rattle.storage.specs.Steps.{There, LookedUp, nextFault, Gave}
+use Rattle.storage.specs.Steps.{cursorIn, Tracks, Sought, There, LookedUp, nextFault, Gave}
 use Rattle.storage.specs.declared.element.Element.the-variants.{Absent}
 use Rattle.storage.specs.declared.element.Located.{Located}
 use Rattle.storage.specs.declared.element.Located.the-variants.{Plain, Refused}
 use Rattle.storage.specs.declared.description.Description.{Description}
 use Rattle.storage.specs.declared.linked.Link.{Link}
-use Rattle.storage.proofs.Elements.{found-plain, located-element}
+use Rattle.storage.proofs.Elements.{found-plain, located-element, element-unstored, element-plain, element-extended, unstored, plain, extended, kind-at}
 
 -- ---- The table or block with a reference
 
@@ -39,9 +45,65 @@ pub linked-find : (s : List ℕ) (ref : ℕ) → (ref ≡ 0 → ⊥) → linkedA
 unfolding linkedAt
 linked-find s ref z = simp (linkedAt, ne-eqb _ _ z)
 
--- what is found in an image that opened
-pub linked-found : (s : List ℕ) (blocks ref : ℕ) → Opens s blocks → (ref ≡ 0 → ⊥) → (r : Located) → r ≡ locatedAt s (findIn s blocks linked-tag ref) → r ≡ linkedAt s ref
-linked-found s blocks ref o z r is = is ∙ ap (locatedAt s) (opened-find s blocks linked-tag ref o) ∙ sym (linked-find s ref z)
+-- where a lookup ended, kept as four numbers
+module _ (s : List ℕ) (blocks : ℕ) where
+  pub tracks-start : Tracks s blocks (replicate 4 0)
+  tracks-start = record { long = refl; on = past-on s blocks 0 0 }
+
+  kept : (at : List ℕ) (c : Cursor) → length at ≡ 4 → cursorIn (set (set (set (set at 0 (c .place)) 1 (c .left)) 2 (c .next)) 3 (c .blocks)) ≡ c
+  kept (place ∷ left ∷ next ∷ blocks ∷ []) c e = refl
+  kept [] c e = absurd (omega arith)
+  kept (a ∷ []) c e = absurd (omega arith)
+  kept (a ∷ b ∷ []) c e = absurd (omega arith)
+  kept (a ∷ b ∷ d ∷ []) c e = absurd (omega arith)
+  kept (a ∷ b ∷ d ∷ f ∷ g ∷ l) c e = absurd (omega arith)
+
+  module _ (ref : ℕ) (at : List ℕ) (o : Opens s blocks) (w : Tracks s blocks at) (c : Cursor) (found : Stands s c (resumed s blocks (cursorIn at) linked-tag ref)) where
+    pub tracks-found : Tracks s blocks (set (set (set (set at 0 (c .place)) 1 (c .left)) 2 (c .next)) 3 (c .blocks))
+    tracks-found =
+        record {
+          long = simp length-set (w .long);
+          on = rw (kept at c (w .long)) (resumed-on s blocks (cursorIn at) linked-tag ref (w .on) c found);
+        }
+
+    pub found-sought : Sought s ref c
+    found-sought =
+        record {
+          stands = stands-self s c _ found;
+          finds = ap headOf (found .is) ∙ resumed-finds s blocks (cursorIn at) linked-tag ref (w .on) o ∙ opened-find s blocks linked-tag ref o;
+        }
+
+-- by the slot where its lookup ended
+module _ (s : List ℕ) (ref : ℕ) (z : ref ≡ 0 → ⊥) (c : Cursor) (w : Sought s ref c) where
+  sought : linkedAt s ref ≡ locatedAt s (headOf (ahead s c))
+  sought = linked-find s ref z ∙ ap (locatedAt s) (sym (w .finds))
+
+  pub sought-none : c .left ≡ 0 → isThere (linkedAt s ref) ≡ false
+  unfolding elementAt
+  sought-none e = ap isThere (sought ∙ ap (locatedAt s) (stands-miss s c _ (w .stands) e))
+
+  pub sought-slot : (c .left ≡ 0 → ⊥) → linkedAt s ref ≡ locatedAt s (hit (c .place))
+  sought-slot h = sought ∙ ap (locatedAt s) (stands-hit s c _ (w .stands) (omega (arith, h)))
+
+-- one that is not stored is not there, and one that is stored is there unless it is extended
+pub unstored-gone : (s : List ℕ) (p : ℕ) → Unstored s p → isThere (locatedAt s (hit p)) ≡ false
+unstored-gone s p u = ap (λ x. isThere (plainOnly x)) (element-unstored s p u)
+
+pub stored-there : (s : List ℕ) (p : ℕ) → IsStored s p → isThere (locatedAt s (hit p)) ≡ not (extendedAt s p)
+stored-there s p h =
+    elim (test (extendedAt s p)) [
+      | inl x ↦ ap (λ x. isThere (plainOnly x)) (element-extended s p h x) ∙ ap not (sym x)
+      | inr x ↦ ap (λ x. isThere (plainOnly x)) (element-plain s p h x) ∙ ap not (sym x)
+    ]
+
+-- one that is there is stored, and where its bytes stand
+module _ (s : List ℕ) (p : ℕ) (there : isThere (locatedAt s (hit p)) ≡ true) where
+  pub plain-at : IsStored s p × (locatedAt s (hit p) ≡ Plain p (startAt s p) (sizeAt s p))
+  plain-at = elim (kind-at s p) [
+    | unstored u e ↦ absurd (false≢true (sym (ap (λ x. isThere (plainOnly x)) e) ∙ there))
+    | extended h x e ↦ absurd (false≢true (sym (ap (λ x. isThere (plainOnly x)) e) ∙ there))
+    | plain h x e ↦ (h, ap plainOnly e)
+  ]
 
 -- what is known of one that is there
 pub linked-there : (s : List ℕ) (ref p offset size : ℕ) → openOf s .number ≡ 0 → (r : Located) → r ≡ linkedAt s ref → r ≡ Plain p offset size → There s ref offset size
@@ -57,9 +119,6 @@ linked-there s ref p offset size sound r is e = go (sym is ∙ e)
               let b : linkedBytes s ref ≡ part s offset size = ap (bytesAt s) q in
               record { there = ap isThere q; inside = f .inside; bytes = b; holds = ap length b ∙ f .long }
         ]
-
-pub linked-nothing : (s : List ℕ) (ref : ℕ) (r : Located) → r ≡ linkedAt s ref → (x : Refusal) → r ≡ Refused x → isThere (linkedAt s ref) ≡ false
-linked-nothing s ref r is x e = ap isThere (sym is ∙ e)
 
 -- ---- The rules of a table or a block
 

@@ -57,8 +57,9 @@ fn copy_blocks(image: &[u8], blocks: usize, p: usize, out: &mut [u8]) -> Copied
             place: 0,
         });
     }
-    let d = linked::describe(image, blocks, record);
-    let judged = linked::follow(image, blocks, d, &mut out[..0]);
+    let mut at = [0usize; 4];
+    let d = linked::describe(image, blocks, &mut at, record);
+    let judged = linked::follow(image, blocks, &mut at, d, &mut out[..0]);
     if judged.fault != 0 {
         return Copied::Refused(Carrying {
             number: judged.fault,
@@ -66,7 +67,7 @@ fn copy_blocks(image: &[u8], blocks: usize, p: usize, out: &mut [u8]) -> Copied
             value: judged.index,
         });
     }
-    linked::follow(image, blocks, d, out);
+    linked::follow(image, blocks, &mut at, d, out);
     Copied::Bytes(d.length)
 }
 

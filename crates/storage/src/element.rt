@@ -12,12 +12,14 @@ use directory::format::LONE;
 ghost use mathlib.Core.Path.{_≡_};
 ghost use Prim.Native.Nat.{_≤_};
 ghost use lib.Dec.{eqb};
+ghost use Rattle.answer.specs.Search.{hit};
 ghost use Rattle.directory.specs.Limits.{lone-tag};
 ghost use Rattle.directory.specs.Lookup.{findIn};
 ghost use Rattle.directory.specs.Slots.{baseTag, unstoredAt, sizeAt, contentAt, tagAt};
 ghost use Rattle.directory.specs.Rules.{IsStored};
 ghost use Rattle.directory.specs.Steps.Cursors.{most-place};
-ghost use Rattle.storage.specs.Elements.{extendedAt, startAt, elementAt, isAbsent, plainOnly, refusalIn};
+ghost use Rattle.storage.specs.Elements.{extendedAt, startAt, elementAt, isAbsent, plainOnly, locatedAt, refusalIn};
+ghost use Rattle.storage.specs.Tables.{isThere};
 
 // Nothing; an element that is named and not stored yet, with the place of its slot; one in plain storage, with its slot and where its bytes
 // stand; or one in extended storage, with its slot.
@@ -79,7 +81,7 @@ fn is_unstored(image: &[u8], p: usize) -> bool
 }
 
 // How many bytes the element of the slot at p has, which is stored.
-fn size(image: &[u8], p: usize) -> usize
+pub(crate) fn size(image: &[u8], p: usize) -> usize
     requires { ⌜ (p ≤ most-place) × IsStored (now image) p ⌝ }
     ensures { λ r. ⌜ r ≡ sizeAt (now (image .entry)) p ⌝ }
 {
@@ -90,7 +92,7 @@ fn size(image: &[u8], p: usize) -> usize
 }
 
 // Where the bytes of the element of the slot at p start, of which there are so many; 0 where it has none.
-fn start(image: &[u8], p: usize, size: usize) -> usize
+pub(crate) fn start(image: &[u8], p: usize, size: usize) -> usize
     requires { ⌜ (p ≤ most-place) × (size ≡ sizeAt (now image) p) ⌝ }
     ensures { λ r. ⌜ r ≡ startAt (now (image .entry)) p ⌝ }
 {
@@ -107,6 +109,17 @@ pub(crate) fn content(image: &[u8], p: usize) -> &[u8]
 {
     let size = size(image, p);
     wire::part(image, start(image, p, size), size)
+}
+
+// Whether the element of the slot at p is in plain storage.
+pub(crate) fn is_plain(image: &[u8], p: usize) -> bool
+    requires { ⌜ p ≤ most-place ⌝ }
+    ensures { λ r. ⌜ r ≡ isThere (locatedAt (now (image .entry)) (hit p)) ⌝ }
+{
+    if is_unstored(image, p) {
+        return false;
+    }
+    !is_extended(image, p)
 }
 
 // What the base tag of a tag and a reference name in a chain of so many blocks.

@@ -23,7 +23,7 @@ use Rattle.vdata.specs.Values.{placeOf, valueIn, valueOf}
 use Rattle.vdata.specs.ValueRules.{LiesAt, Readable}
 use Rattle.vdata.proofs.Patterns.{value-of-bytes}
 use Rattle.vdata.proofs.Values.{granted-readable, readable-granted, values-bytes}
-use Rattle.vdata.proofs.ValueRules.{lies-inside, lies-there, type-known, lies-once}
+use Rattle.vdata.proofs.ValueRules.{lies-inside, lies-there, lies-once}
 use Rattle.vdata.proofs.ValueClaims.{value-bytes}
 
 -- ---- The value of a type
@@ -104,6 +104,5 @@ value-exact s ref r i c kind bits b g byte-order width at is lies =
     let x = granted-readable s ref r i c (ap (λ a. a .number) g) in
     let t = code-is is in
     let told : bits ≡ valueBits (valueAt (codeOwn s ref r i c x) (valuesOwn s ref r i c x) (placeOwn s ref r i c x)) = ap (λ a. getD (a .values) 1 0) (sym g ∙ answered s ref r i c x) in
-    let known = type-known (headOwn s ref r i c x) (x .sound) r i c (x .indexed) in
     rw (told, lies-here s ref r i c x width at (t .0) lies, ← t .0, ← t .2)
-    (value-bytes (codeOwn s ref r i c x) known (valuesOwn s ref r i c x) (values-bytes s ref r i c b x) (placeOwn s ref r i c x) (inside s ref r i c x))
+    (value-bytes (codeOwn s ref r i c x) (valuesOwn s ref r i c x) (values-bytes s ref r i c b x) (placeOwn s ref r i c x) (inside s ref r i c x))

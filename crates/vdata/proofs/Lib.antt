@@ -1,6 +1,9 @@
 pub mod Patterns
 pub mod Values
+pub mod Columns
 pub mod ValueRules
 pub mod ValueClaims
+pub mod ColumnRules
+pub mod ColumnClaims
 pub mod ByteOrderClaims
 pub mod Cases

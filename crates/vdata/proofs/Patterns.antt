@@ -1,4 +1,4 @@
--- Laws of the values of patterns: the pattern of a type's value, NaNs, signed numbers in 64 bits, and the bits of a value. Assumes nothing.
+-- Laws of the values of patterns: the pattern of a type's value, NaNs, signed numbers in 64 bits, and the bits and the kind of a value. Assumes nothing.
 use Prim.Native.Nat.{ℕ, _<_, _≤_, _*_, _%_, zero, suc, _+_, _^_, _-_, min}
 use native.Mathlib.Omega.{arith}
 use native.Mathlib.Nat.{add-zero, mod-eq-of-lt, mul-suc, mul-add-mod-self-left}
@@ -9,19 +9,20 @@ use mathlib.Core.Bool.{true, false, Bool, cond, not}
 use mathlib.Core.Logic.{inl, inr}
 use lib.Ieee.{Format, ones, hid, top, ofBits, toBits, nanBits, binary32, binary64}
 use lib.Ieee.Bits.{nanBits-above, toBits-ofBits, nanBits-is}
-use lib.Dec.{ltb, T}
+use lib.Dec.{ltb, leb, eqb, T}
 use lib.IntN.{pos, negsuc, _-ℤ_}
 use lib.Signed.{mag}
 use mir.Syntax.{w64}
 use mir.Val.{SFits}
-use borrow.Author.Tests.{lt-ltb, le-ltb}
+use borrow.Author.Tests.{lt-ltb, le-ltb, le-leb, lt-leb, leb-true, leb-false}
 use Rattle.wire.specs.Numbers.{numberIn, part, Bytes, ReadsIn}
 use Rattle.wire.specs.declared.ByteOrder.{ByteOrder}
 use Rattle.wire.proofs.Numbers.{number-small, number-part}
 use Rattle.answer.proofs.Tests.{test}
-use Rattle.records.specs.Types.{baseType, byteOrderOf, widthOf, kindOf, signed, unsigned, float, TypeRow, types, rowOf}
+use Rattle.records.specs.Types.{Kind, baseType, byteOrderOf, widthOf, kindOf, signed, unsigned, float, TypeRow, types, rowOf}
 use Rattle.records.proofs.Types.{width-by, kind-by, kind-unsigned, row-is}
-use Rattle.vdata.specs.Patterns.{valueBy, valueAt, signedBy, float32, float64, valueKind, valueBits}
+use Rattle.vdata.specs.Patterns.{valueBy, valueAt, signedBy, float32, float64, valueKind, valueBits, kindNumber, typeKind}
+use Rattle.vdata.specs.Steps.{extended, Splits}
 use Rattle.vdata.specs.declared.value.Value.the-variants.{Unsigned}
 
 -- ---- The value of a type
@@ -133,25 +134,25 @@ signed-bits n k times h whole =
 -- what holds of the patterns of a row of the table: whole bits, or the lower bytes of a signed number's
 abbrev pub Exact : TypeRow → Type 0
 Exact r =
-    (n : ℕ) → n < 256 ^ r .width → 1 ≤ r .width
+    (n : ℕ) → n < 256 ^ r .width
     → let bits = valueBits (valueBy (r .kind) (r .width) n) in (bits % 256 ^ r .width ≡ n) × ((r .kind ≡ signed → ⊥) → bits ≡ n)
 
 exact-unsigned : (code width : ℕ) → Exact (record { code = code; width = width; kind = unsigned })
 unfolding valueBy
-exact-unsigned code width n small l = (mod-eq-of-lt small, λ z. refl)
+exact-unsigned code width n small = (mod-eq-of-lt small, λ z. refl)
 
 exact-signed : (code width k times : ℕ) → 256 ^ width ≡ suc k → suc k * times ≡ 18446744073709551616 → Exact (record { code = code; width = width; kind = signed })
 unfolding valueBy
-exact-signed code width k times e q n small l =
+exact-signed code width k times e q n small =
     (ap (λ m. valueBits (signedBy n m) % m) e ∙ signed-bits n k times (subst (λ m. n < m) e small) q, λ z. absurd (z refl))
 
 exact-float32 : (code : ℕ) → Exact (record { code = code; width = 4; kind = float })
 unfolding valueBy
-exact-float32 code n small l = let b = bits32 n small in (ap (λ m. m % 4294967296) b ∙ mod-eq-of-lt small, λ z. b)
+exact-float32 code n small = let b = bits32 n small in (ap (λ m. m % 4294967296) b ∙ mod-eq-of-lt small, λ z. b)
 
 exact-float64 : (code : ℕ) → Exact (record { code = code; width = 8; kind = float })
 unfolding valueBy
-exact-float64 code n small l = let b = bits64 n small in (ap (λ m. m % 18446744073709551616) b ∙ mod-eq-of-lt small, λ z. b)
+exact-float64 code n small = let b = bits64 n small in (ap (λ m. m % 18446744073709551616) b ∙ mod-eq-of-lt small, λ z. b)
 
 exact-row : (base : ℕ) → Exact (rowOf base types)
 exact-row base =
@@ -179,8 +180,98 @@ exact-row base =
     )
 
 -- of the value of a type among bytes
-module _ (code : ℕ) (known : 1 ≤ widthOf code) (v : List ℕ) (bytes : Bytes v) (at : ℕ) where
+module _ (code : ℕ) (v : List ℕ) (bytes : Bytes v) (at : ℕ) where
   pub exact : let n = numberIn (byteOrderOf code) (widthOf code) v at in let bits = valueBits (valueAt code v at) in
       (bits % 256 ^ widthOf code ≡ n) × ((kindOf code ≡ signed → ⊥) → bits ≡ n)
   unfolding widthOf kindOf valueAt
-  exact = exact-row (baseType code) _ (number-small (byteOrderOf code) (widthOf code) v at bytes) known
+  exact = exact-row (baseType code) _ (number-small (byteOrderOf code) (widthOf code) v at bytes)
+
+-- ---- The kind of a type's values
+
+kind-by-type : (kind : Kind) (width n : ℕ) → valueKind (valueBy kind width n) ≡ kindNumber kind width
+unfolding valueBy kindNumber
+kind-by-type signed width n = kind-signed n (256 ^ width)
+kind-by-type unsigned width n = refl
+kind-by-type float width n = elim (test (eqb width 8)) [ inl e ↦ rw (valueBy, kindNumber, e) (kind64 n) | inr e ↦ rw (valueBy, kindNumber, e) (kind32 n) ]
+
+pub kind-is : (code : ℕ) (v : List ℕ) (at : ℕ) → valueKind (valueAt code v at) ≡ typeKind code
+unfolding valueAt typeKind
+kind-is code v at = kind-by-type (kindOf code) (widthOf code) (numberIn (byteOrderOf code) (widthOf code) v at)
+
+module _ (code base : ℕ) (is : base ≡ baseType code) where
+  -- by the row of its own code
+  pub row-kind : (own : ℕ) → base ≡ own → kindNumber (rowOf own types .kind) (rowOf own types .width) ≡ typeKind code
+  unfolding typeKind
+  row-kind own e = rw (kind-by code base own is e, width-by code base own is e)
+
+  pub unsigned-kind : (base ≡ 20 → ⊥) → (base ≡ 22 → ⊥) → (base ≡ 24 → ⊥) → (base ≡ 5 → ⊥) → (base ≡ 6 → ⊥) → 2 ≡ typeKind code
+  unfolding typeKind kindNumber
+  unsigned-kind a b c d e = rw (kind-unsigned code base is a b c d e)
+
+-- ---- The bits of a value by its pattern
+
+extended-low : (most n : ℕ) → n ≤ most → extended most n ≡ n
+unfolding extended
+extended-low most n h = rw (extended, le-leb n most h)
+
+extended-high : (most n : ℕ) → most < n → extended most n ≡ n + (18446744073709551614 - 2 * most)
+unfolding extended
+extended-high most n h = rw (extended, lt-leb n most h)
+
+pub extends : (most n : ℕ) → (n ≤ most → n ≡ extended most n) × (most < n → n + (18446744073709551614 - 2 * most) ≡ extended most n)
+extends most n = ((λ h. sym (extended-low most n h)), (λ h. sym (extended-high most n h)))
+
+-- a signed type's, by the half of its patterns
+pub splits-signed : (code base own : ℕ) → base ≡ baseType code → base ≡ own → rowOf own types .kind ≡ signed → (most : ℕ) → 256 ^ rowOf own types .width ≡ suc (2 * most + 1)
+    → most ≤ 2147483647 → Splits code most
+unfolding valueBy
+splits-signed code base own is e kind most whole low =
+    let w : 256 ^ widthOf code ≡ suc (2 * most + 1) = ap (λ k. 256 ^ k) (width-by code base own is e) ∙ whole in
+    let k : kindOf code ≡ signed = kind-by code base own is e ∙ kind in
+    record {
+      room = λ n h l m. (omega (arith, w), low);
+      bits = λ n h l. rw k (rw w (elim (test (leb n most)) [
+        | inl t ↦ let m = leb-true n most t in signed-low n (suc (2 * most + 1)) (omega arith) ∙ sym (extended-low most n m)
+        | inr t ↦
+            let m : most < n = leb-false n most t in
+            omega (arith, signed-high n (2 * most + 1) (omega (arith, w)) (omega arith) (omega arith), extended-high most n m)
+      ]));
+    }
+
+-- every other's
+unsigned-apart : unsigned ≡ signed → ⊥
+unsigned-apart e = let z : _≡_ {A = ℕ} 0 1 = cc in absurd (omega arith)
+
+float-apart : float ≡ signed → ⊥
+float-apart e = let z : _≡_ {A = ℕ} 0 1 = cc in absurd (omega arith)
+
+kind-apart : (base : ℕ) → (base ≡ 20 → ⊥) → (base ≡ 22 → ⊥) → (base ≡ 24 → ⊥) → rowOf base types .kind ≡ signed → ⊥
+kind-apart base a b c =
+    row-is (λ r. r .kind ≡ signed → ⊥) base types (
+      (λ q. unsigned-apart),
+      (
+        (λ q. unsigned-apart),
+        (
+          (λ q. absurd (a q)),
+          (
+            (λ q. unsigned-apart),
+            (
+              (λ q. absurd (b q)),
+              (
+                (λ q. unsigned-apart),
+                ((λ q. absurd (c q)), ((λ q. unsigned-apart), ((λ q. float-apart), ((λ q. float-apart), unsigned-apart)))),
+              ),
+            ),
+          ),
+        ),
+      ),
+    )
+
+pub splits-others : (code base : ℕ) → base ≡ baseType code → (base ≡ 20 → ⊥) → (base ≡ 22 → ⊥) → (base ≡ 24 → ⊥) → Splits code 18446744073709551615
+unfolding widthOf kindOf
+splits-others code base is a b c =
+    let z = kind-apart (baseType code) (λ q. a (is ∙ q)) (λ q. b (is ∙ q)) (λ q. c (is ∙ q)) in
+    record {
+      room = λ n h l m. absurd (omega arith);
+      bits = λ n h l. exact-row (baseType code) n l .1 z ∙ sym (extended-low 18446744073709551615 n (omega arith));
+    }

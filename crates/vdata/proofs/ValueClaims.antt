@@ -35,16 +35,16 @@ use Rattle.vdata.proofs.Patterns.{exact}
 
 -- ---- Bits
 
--- of the value of a known type among bytes
-module _ (code : ℕ) (known : 1 ≤ widthOf code) (v : List ℕ) (bytes : Bytes v) (at : ℕ) where
+-- of the value of a type among bytes
+module _ (code : ℕ) (v : List ℕ) (bytes : Bytes v) (at : ℕ) where
   -- its bits are the element's, in the type's byte order, for every type and every pattern: a signed number's in as many of its lower bytes as the
   -- type has
   pub value-bits : valueBits (valueAt code v at) % 256 ^ widthOf code ≡ numberIn (byteOrderOf code) (widthOf code) v at
-  value-bits = exact code known v bytes at .0
+  value-bits = exact code v bytes at .0
 
   -- and where it is no signed number, whole
   pub value-bits-whole : (kindOf code ≡ signed → ⊥) → valueBits (valueAt code v at) ≡ numberIn (byteOrderOf code) (widthOf code) v at
-  value-bits-whole = exact code known v bytes at .1
+  value-bits-whole = exact code v bytes at .1
 
   -- laid down in that order, they are the element's own bytes
   pub value-bytes : at + widthOf code ≤ length v → bytesIn (byteOrderOf code) (widthOf code) (valueBits (valueAt code v at)) ≡ part v at (widthOf code)

@@ -27,7 +27,7 @@ use Rattle.vhead.proofs.HeadsRead.{head-passed}
 use Rattle.vhead.proofs.HeadRules.{by-head}
 use Rattle.vhead.proofs.HeadsJudged.{sound-typed, sound-sized}
 use Rattle.vdata.specs.Patterns.{signedBy, valueBy, valueAt, valueKind, valueBits}
-use Rattle.vdata.specs.Values.{indexFault, placeOf, valuesFault, valueIn, valueAfter, valueFound, valueOf}
+use Rattle.vdata.specs.Values.{fieldFault, indexFault, placeOf, valuesFault, valueIn, valueAfter, valueFound, valueOf}
 use Rattle.vdata.specs.ValueRules.{Indexed, LiesAt, topByte, BitsAre, ValueIs, afterRules, valueRules}
 use Rattle.vdata.proofs.Patterns.{bits32, bits64, kind32, kind64, kind-signed, signed-low, signed-high}
 use Rattle.vdata.proofs.Values.{place-records, place-fields, lies}
@@ -135,7 +135,7 @@ module _ (byte-order : ByteOrder) (v : List ℕ) (bytes : Bytes v) (at : ℕ) wh
       )
 
 -- by a code
-value-told : (v : List ℕ) → Bytes v → (at code : ℕ) → 1 ≤ widthOf code → let x = valueAt code v at in
+pub value-told : (v : List ℕ) → Bytes v → (at code : ℕ) → 1 ≤ widthOf code → let x = valueAt code v at in
     CodeIs code (byteOrderOf code) (valueKind x) (widthOf code) × BitsAre (byteOrderOf code) (valueKind x) (widthOf code) v at (valueBits x)
 unfolding widthOf kindOf valueAt
 value-told v bytes at code l =
@@ -218,7 +218,7 @@ value-once e v r i c kind bits other also x y =
 -- ---- A value goes by its rules
 
 after-by : (s e : List ℕ) (values : Hit) (r i c : ℕ) → By 2 (afterRules s e values r i c) (valueAfter s e values r i c)
-unfolding valueAfter indexFault valuesFault
+unfolding valueAfter indexFault fieldFault valuesFault
 after-by s e values r i c =
     let h = head-is e in
     let all = recordsOf e * recordSizeOf e in

@@ -39,7 +39,7 @@ use Rattle.vhead.proofs.HeadsJudged.{size-low, Sized}
 use Rattle.vhead.proofs.Heads.{placed, head-is}
 use Rattle.vdata.specs.Limits.{values-tag}
 use Rattle.vdata.specs.Patterns.{valueAt, valueKind, valueBits}
-use Rattle.vdata.specs.Values.{indexFault, placeOf, valuesFault, valueIn, valueAfter, valueFound, valueOf, Gives}
+use Rattle.vdata.specs.Values.{fieldFault, indexFault, placeOf, valuesFault, valueIn, valueAfter, valueFound, valueOf, Gives}
 use Rattle.vdata.specs.ValueRules.{Indexed, Readable}
 use Rattle.vdata.specs.declared.value.Value.{Value}
 use Rattle.vdata.specs.declared.value.Answered.{Answered}
@@ -47,35 +47,43 @@ use Rattle.vdata.specs.declared.value.Answered.the-variants as answered
 
 -- ---- The indices
 
+module _ (h : Head) (f : Numbers) (i c : ℕ) where
+  pub field-absent : h .fields ≤ i → fieldFault h f i c ≡ NO-VALUE
+  unfolding fieldFault
+  field-absent l = must-fails _ NO-VALUE _ (le-ltb _ _ l)
+
+  module _ (b : i < h .fields) (g : Numbers) (is : g ≡ f) where
+    pub component-absent : g .order ≤ c → fieldFault h f i c ≡ NO-VALUE
+    unfolding fieldFault
+    component-absent l = must-holds _ NO-VALUE _ (lt-ltb _ _ b) ∙ must-fails _ NO-VALUE _ (le-ltb c (f .order) (rw is at l))
+
+    pub field-passes : c < g .order → fieldFault h f i c ≡ 0
+    unfolding fieldFault
+    field-passes l = must-holds _ NO-VALUE _ (lt-ltb _ _ b) ∙ must-holds _ NO-VALUE _ (lt-ltb c (f .order) (rw is at l))
+
+  pub field-inside : fieldFault h f i c ≡ 0 → (i < h .fields) × (c < f .order)
+  unfolding fieldFault
+  field-inside e =
+      let y = passed (ltb i (h .fields)) 16 _ e in
+      let z = passed (ltb c (f .order)) 16 _ (y .1) in
+      (ltb-true _ _ (y .0), ltb-true _ _ (z .0))
+
 module _ (h : Head) (f : Numbers) (r i c : ℕ) where
   pub index-record : h .records ≤ r → indexFault h f r i c ≡ NO-VALUE
   unfolding indexFault
   index-record l = must-fails _ NO-VALUE _ (le-ltb _ _ l)
 
-  module _ (a : r < h .records) where
-    pub index-field : h .fields ≤ i → indexFault h f r i c ≡ NO-VALUE
-    unfolding indexFault
-    index-field l = must-holds _ NO-VALUE _ (lt-ltb _ _ a) ∙ must-fails _ NO-VALUE _ (le-ltb _ _ l)
-
-    module _ (b : i < h .fields) where
-      pub index-component : (g : Numbers) → g ≡ f → g .order ≤ c → indexFault h f r i c ≡ NO-VALUE
-      unfolding indexFault
-      index-component g is l =
-          must-holds _ NO-VALUE _ (lt-ltb _ _ a) ∙ must-holds _ NO-VALUE _ (lt-ltb _ _ b) ∙ must-fails _ NO-VALUE _ (le-ltb c (f .order) (rw is at l))
-
-      pub index-passes : (g : Numbers) → g ≡ f → c < g .order → indexFault h f r i c ≡ 0
-      unfolding indexFault
-      index-passes g is l =
-          must-holds _ NO-VALUE _ (lt-ltb _ _ a) ∙ must-holds _ NO-VALUE _ (lt-ltb _ _ b) ∙ must-holds _ NO-VALUE _ (lt-ltb c (f .order) (rw is at l))
+  pub index-goes : r < h .records → indexFault h f r i c ≡ fieldFault h f i c
+  unfolding indexFault
+  index-goes l = must-holds _ NO-VALUE _ (lt-ltb _ _ l)
 
   -- indices that pass are small enough
   pub index-inside : indexFault h f r i c ≡ 0 → (r < h .records) × (i < h .fields) × (c < f .order)
   unfolding indexFault
   index-inside e =
       let x = passed (ltb r (h .records)) 16 _ e in
-      let y = passed (ltb i (h .fields)) 16 _ (x .1) in
-      let z = passed (ltb c (f .order)) 16 _ (y .1) in
-      (ltb-true _ _ (x .0), ltb-true _ _ (y .0), ltb-true _ _ (z .0))
+      let y = field-inside h f i c (x .1) in
+      (ltb-true _ _ (x .0), y .0, y .1)
 
 -- a head that was read, and the numbers of its field
 module _ (e : List ℕ) (h : Head) (is : h ≡ headIn e) where
@@ -252,9 +260,11 @@ module _ (e : List ℕ) (r i c : ℕ) where
       record { record-there = x .0; field-there = x .1; component-there = x .2 }
 
   there-indices : Indexed e r i c → indexFault (headIn e) (fieldAt e (headIn e) i) r i c ≡ 0
-  there-indices x = rw (head-is e) (index-passes (placed e) (fieldAt e (placed e) i) r i c (x .record-there) (x .field-there) _ refl (x .component-there))
+  there-indices x =
+      rw (head-is e)
+      (index-goes (placed e) (fieldAt e (placed e) i) r i c (x .record-there) ∙ field-passes (placed e) (fieldAt e (placed e) i) i c (x .field-there) _ refl (x .component-there))
 
-all-records : (e : List ℕ) → headIn e .records * headIn e .«record_size» ≡ recordsOf e * recordSizeOf e
+pub all-records : (e : List ℕ) → headIn e .records * headIn e .«record_size» ≡ recordsOf e * recordSizeOf e
 all-records e = ap (λ h. h .records * h .«record_size») (head-is e)
 
 -- a call that is not refused

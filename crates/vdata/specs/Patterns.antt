@@ -53,3 +53,12 @@ valueBits (Float32 x) = toBits binary32 x
 valueBits (Float64 x) = toBits binary64 x
 valueBits (Nan32 n) = n
 valueBits (Nan64 n) = n
+
+-- the kind of a type's values, by their kind and their width in bytes
+unfoldable pub kindNumber : Kind → ℕ → ℕ
+kindNumber signed width = 1
+kindNumber unsigned width = 2
+kindNumber float width = elim (eqb width 8) [ true ↦ 4 | false ↦ 3 ]
+
+unfoldable pub typeKind : ℕ → ℕ
+typeKind code = kindNumber (kindOf code) (widthOf code)

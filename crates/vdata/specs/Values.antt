@@ -21,10 +21,13 @@ use Rattle.vdata.specs.declared.value.Value.{Value}
 use Rattle.vdata.specs.declared.value.Answered.{Answered}
 use Rattle.vdata.specs.declared.value.Answered.the-variants as answered
 
+-- 17: a field or component index too large
+unfoldable pub fieldFault : Head → Numbers → ℕ → ℕ → ℕ
+fieldFault h f i c = must (ltb i (h .fields)) NO-VALUE (must (ltb c (f .order)) NO-VALUE 0)
+
 -- 17: a record, field or component index too large
 unfoldable pub indexFault : Head → Numbers → ℕ → ℕ → ℕ → ℕ
-indexFault h f r i c =
-    must (ltb r (h .records)) NO-VALUE (must (ltb i (h .fields)) NO-VALUE (must (ltb c (f .order)) NO-VALUE 0))
+indexFault h f r i c = must (ltb r (h .records)) NO-VALUE (fieldFault h f i c)
 
 -- where component c of the field in record r lies
 unfoldable pub placeOf : Head → Numbers → ℕ → ℕ → ℕ

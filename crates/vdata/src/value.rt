@@ -104,14 +104,11 @@ fn value_at(code: usize, part: &[u8], at: usize) -> Value
     Value::Unsigned(n as u64)
 }
 
-// The number of the rule that the indices of a record, a field and a component break, 0 where they break none.
-fn index_fault(h: Head, part: &[u8], record: usize, field: usize, component: usize) -> usize
+// The number of the rule that the indices of a field and a component break, 0 where they break none.
+pub(crate) fn field_fault(h: Head, part: &[u8], field: usize, component: usize) -> usize
     requires { ⌜ h ≡ Heads.headIn (now part) ⌝ }
-    ensures { λ r. ⌜ r ≡ Values.indexFault h (Heads.fieldAt (now (part .entry)) h field) «record» field component ⌝ }
+    ensures { λ r. ⌜ r ≡ Values.fieldFault h (Heads.fieldAt (now (part .entry)) h field) field component ⌝ }
 {
-    if h.records <= record {
-        return NO_VALUE;
-    }
     if h.fields <= field {
         return NO_VALUE;
     }
@@ -122,8 +119,19 @@ fn index_fault(h: Head, part: &[u8], record: usize, field: usize, component: usi
     0
 }
 
+// The same of the indices of a record, a field and a component.
+fn index_fault(h: Head, part: &[u8], record: usize, field: usize, component: usize) -> usize
+    requires { ⌜ h ≡ Heads.headIn (now part) ⌝ }
+    ensures { λ r. ⌜ r ≡ Values.indexFault h (Heads.fieldAt (now (part .entry)) h field) «record» field component ⌝ }
+{
+    if h.records <= record {
+        return NO_VALUE;
+    }
+    field_fault(h, part, field, component)
+}
+
 // Where a component of a field in a record lies among the values.
-fn place(h: Head, f: Numbers, record: usize, component: usize) -> usize
+pub(crate) fn place(h: Head, f: Numbers, record: usize, component: usize) -> usize
     requires { ⌜ (h .records < 4294967296) × (h .«record_size» < 65536) × Steps.Narrow f
         × («record» < h .records) × (component < f .order) ⌝ }
     ensures { λ r. ⌜ r ≡ Values.placeOf h f «record» component ⌝ }

@@ -381,6 +381,27 @@ be-four s at =
     let l : be 2 s (at + 2) ≡ getD s (at + 2) 0 * 256 + getD s (at + 3) 0 = rw (← e) (be-two s (at + 2)) in
     omega (arith, be-two s at)
 
+pub le-two : (s : List ℕ) (at : ℕ) → le 2 s at ≡ getD s (at + 1) 0 * 256 + getD s at 0
+le-two s at = number-split LittleEndian 1 1 s at ∙ rw (number-one LittleEndian s (at + 1), number-one LittleEndian s at)
+
+pub le-four : (s : List ℕ) (at : ℕ) → le 4 s at ≡ getD s (at + 3) 0 * 16777216 + getD s (at + 2) 0 * 65536 + getD s (at + 1) 0 * 256 + getD s at 0
+le-four s at =
+    let e : at + 2 + 1 ≡ at + 3 = omega arith in
+    let n : le 4 s at ≡ le 2 s (at + 2) * 65536 + le 2 s at = number-split LittleEndian 2 2 s at in
+    let h : le 2 s (at + 2) ≡ getD s (at + 3) 0 * 256 + getD s (at + 2) 0 = rw (← e) (le-two s (at + 2)) in
+    omega (arith, le-two s at)
+
+-- a byte is its number in either order
+pub reads-one : (order : ByteOrder) (s : List ℕ) (at n : ℕ) → Reads 1 s at n → ReadsIn order 1 s at n
+reads-one order s at n r = record { is = r .is ∙ number-one BigEndian s at ∙ sym (number-one order s at); small = r .small }
+
+-- what was read in an order and a width that are those asked for
+pub reads-asked : (order own : ByteOrder) → order ≡ own → (width k : ℕ) → width ≡ k → k ≤ 8 → (s : List ℕ) (at n : ℕ) → ReadsIn own k s at n
+    → ReadsIn order (min width 8) s at n
+reads-asked order own o width k w l s at n r =
+    let m : min width 8 ≡ k = omega arith in
+    rw (o, m) r
+
 -- one byte more, below those that were read
 pub reads-more : (order : ByteOrder) (k : ℕ) (s : List ℕ) (at n b : ℕ) → ReadsIn order k s (highAt order 1 at) n → Reads 1 s (lowAt order k at) b
     → ReadsIn order (k + 1) s at (n * 256 + b)

@@ -6,6 +6,7 @@ ghost use Prim.Native.Nat.{_+_, _<_, min};
 ghost use lib.ListN.{replicate};
 ghost use Rattle.wire.specs.Numbers as Numbers;
 ghost use Rattle.wire.specs.Numbers.{bytes, put, lowAt, highAt, ReadsIn, Reads};
+ghost use Rattle.wire.specs.declared.ByteOrder.the-variants.{LittleEndian};
 
 // Which byte of a number stands first: its most significant one, or its least.
 pub enum ByteOrder {
@@ -72,8 +73,8 @@ fn next_byte(order: ByteOrder, at: usize, high: usize, low: usize) -> usize
     }
 }
 
-// The number in so many bytes, at most 8, in a byte order.
-pub fn read_number(s: &[u8], at: usize, width: usize, order: ByteOrder) -> usize
+// The number in so many bytes, at most 8, in a byte order, byte by byte.
+fn read_bytes(s: &[u8], at: usize, width: usize, order: ByteOrder) -> usize
     ensures { λ r. ⌜ ReadsIn order (min width 8) (now (s .entry)) at r ⌝ }
 {
     if s.len() <= at {
@@ -87,6 +88,62 @@ pub fn read_number(s: &[u8], at: usize, width: usize, order: ByteOrder) -> usize
         i += 1;
     }
     n
+}
+
+// The numbers in 2, 4 and 8 bytes, least significant byte first.
+fn low16(s: &[u8], at: usize) -> usize
+    ensures { λ r. ⌜ ReadsIn LittleEndian 2 (now (s .entry)) at r ⌝ }
+{
+    if s.len() <= at {
+        return 0;
+    }
+    if s.len() - at < 2 {
+        return read8(s, at + 1) * 256 + read8(s, at);
+    }
+    wide(s[at + 1]) * 256 + wide(s[at])
+}
+
+fn low32(s: &[u8], at: usize) -> usize
+    ensures { λ r. ⌜ ReadsIn LittleEndian 4 (now (s .entry)) at r ⌝ }
+{
+    if s.len() <= at {
+        return 0;
+    }
+    if s.len() - at < 4 {
+        return low16(s, at + 2) * 65536 + low16(s, at);
+    }
+    wide(s[at + 3]) * 16777216 + wide(s[at + 2]) * 65536 + wide(s[at + 1]) * 256 + wide(s[at])
+}
+
+fn low64(s: &[u8], at: usize) -> usize
+    ensures { λ r. ⌜ ReadsIn LittleEndian 8 (now (s .entry)) at r ⌝ }
+{
+    if s.len() <= at {
+        return 0;
+    }
+    low32(s, at + 4) * 4294967296 + low32(s, at)
+}
+
+// The number in so many bytes, at most 8, in a byte order: of 1, 2, 4 or 8 bytes without a loop.
+pub fn read_number(s: &[u8], at: usize, width: usize, order: ByteOrder) -> usize
+    ensures { λ r. ⌜ ReadsIn order (min width 8) (now (s .entry)) at r ⌝ }
+{
+    match order {
+        ByteOrder::BigEndian => match width {
+            1 => read8(s, at),
+            2 => read16(s, at),
+            4 => read32(s, at),
+            8 => read64(s, at),
+            _ => read_bytes(s, at, width, order),
+        },
+        ByteOrder::LittleEndian => match width {
+            1 => read8(s, at),
+            2 => low16(s, at),
+            4 => low32(s, at),
+            8 => low64(s, at),
+            _ => read_bytes(s, at, width, order),
+        },
+    }
 }
 
 pub fn write8(s: &mut [u8], at: usize, x: usize)

@@ -6,13 +6,13 @@ use super::records::same;
 use crate::compare::compare_records;
 use crate::compare::packing::call_library;
 use crate::compare::records::answer;
-use crate::compare::vset::{value_at, value_read};
+use crate::compare::vset::{column_read, value_at, value_read};
 use crate::packing::Record;
 use crate::random::Random;
 use crate::reader;
 use crate::tally::Tally;
-use crate::vset::{read_value, Tail, Vdata, DATA, HEAD};
-use hdf4_sys::{self as library, ValueAnswer};
+use crate::vset::{read_column, read_value, Tail, Vdata, DATA, HEAD};
+use hdf4_sys::{self as library, ColumnAnswer, ValueAnswer};
 use std::ops::Range;
 use std::slice;
 
@@ -245,7 +245,7 @@ impl Case {
         })
     }
 
-    /// Each value as library and reader read it; answers how many there are.
+    /// Each value, and each column of them, as library and reader read it; answers how many values there are.
     fn check_values(&self, image: &[u8]) -> Result<usize, String> {
         let mut count = 0;
         for (field, column) in (0..).zip(&self.columns) {
@@ -255,6 +255,10 @@ impl Case {
                 let checked = check_value(image, [at / order, field, at % order], paper);
                 checked.map_err(|answers| format!("value {at} of type {}\n{answers}", column.field[0]))?;
                 count += 1;
+            }
+            for component in 0..order {
+                let checked = check_column(image, [field, component], column);
+                checked.map_err(|answers| format!("column {component} of type {}\n{answers}", column.field[0]))?;
             }
         }
         Ok(count)
@@ -269,6 +273,24 @@ fn check_value(image: &[u8], indices: [u64; 3], paper: ValueAnswer) -> Result<()
         return Err(format!("paper   {paper:?}\nlibrary {library:?}\nreader  {reader:?}"));
     }
     Ok(())
+}
+
+/// So must a component of a field in every record, which leaves an entry that it does not need.
+fn check_column(image: &[u8], indices: [u64; 2], column: &Column) -> Result<(), String> {
+    let [field, component] = indices;
+    let own = column.values.iter().skip(component as usize).step_by(column.field[3].into());
+    let bits: Vec<u64> = own.map(|(_, bits)| *bits).collect();
+    let records = bits.len() as u64;
+    let paper = ColumnAnswer { kind: column.kind, records, ..ColumnAnswer::default() };
+    let mut out = vec![77; bits.len() + 1];
+    let library = library::read_column(image, 1, field, component, &mut out);
+    let reading = read_column(image, &reader::open(image), 1, indices, bits.len());
+    let reader = answer(&reading, column_read);
+    if library != paper || reader != paper {
+        return Err(format!("paper   {paper:?}\nlibrary {library:?}\nreader  {reader:?}"));
+    }
+    same("column by the library", [&out], [&[&bits[..], &[77]].concat()])?;
+    same("column by the reader", [reading.ok().map(|(column, _)| column.bits)], [Some(bits)])
 }
 
 impl Column {

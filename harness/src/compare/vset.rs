@@ -1,4 +1,4 @@
-//! Vgroups, Vdata heads, Vdata values and the listing of groups.
+//! Vgroups, Vdata heads, Vdata values and columns of them, and the listing of groups.
 
 use super::records::{holds, pack_again, rooms, two_rooms};
 use super::{Outcome, Trial};
@@ -7,12 +7,16 @@ use crate::packing::Record;
 use crate::random::Random;
 use crate::records::Found;
 use crate::tally::Call;
-use crate::vset::{self, Group, Value, Vdata, FIELD};
-use hdf4_sys::{self as library, Field, GroupAnswer, GroupListAnswer, ValueAnswer, VdataAnswer};
+use crate::vset::{self, Column, Group, Value, Vdata, FIELD};
+use hdf4_sys::{self as library, ColumnAnswer, Field, GroupAnswer, GroupListAnswer, ValueAnswer, VdataAnswer};
+use std::collections::BTreeSet;
 
 /// How many values of a Vdata are read, each of them where there are no more.
 pub const FEW_VALUES: usize = 8;
 pub const MANY_VALUES: usize = 600;
+
+/// How many records a column has at most that is read whole.
+const MOST_RECORDS: u32 = 1 << 16;
 
 /// Indices that no Vdata has.
 const ABSURD: [u64; 5] = [1 << 16, 1 << 32, (1 << 32) + 1, 1 << 63, u64::MAX];
@@ -80,11 +84,12 @@ pub fn group_listed(pairs: &[u16]) -> GroupListAnswer {
     GroupListAnswer { pairs: pairs.len() as u64 / 2, ..GroupListAnswer::default() }
 }
 
-/// Reads the head of a Vdata by both its calls, packs it again, and reads some or all of its values.
+/// Reads the head of a Vdata by both its calls, packs it again, and reads some or all of its values, and columns of them.
 pub fn compare_vdata(trial: &mut Trial, reference: u16, most_values: usize) -> Outcome {
     let whole = vset::read_vdata(trial.lent.image(), &trial.directory, reference, [usize::MAX; 2]);
     let head = whole.as_ref().ok().map(|(found, _)| &found.record);
     let fields = head.map_or(1, |head| head.name_lengths.len());
+    let records = head.map_or(0, |head| head.records);
     let asked = head.map_or(any_indices(trial.random), |head| values(trial.random, head, most_values));
     for rooms in two_rooms(trial, [FIELD * fields, 2 * fields]) {
         compare_head(trial, reference, rooms)?;
@@ -93,10 +98,12 @@ pub fn compare_vdata(trial: &mut Trial, reference: u16, most_values: usize) -> O
         compare_fields(trial, reference, room)?;
     }
     pack_again(trial, whole, Record::Vdata)?;
+    let columns: BTreeSet<[u64; 2]> = asked.iter().map(|[_, field, component]| [*field, *component]).collect();
     for indices in asked {
         compare_value(trial, reference, indices)?;
     }
-    Ok(())
+    let is_short = records <= MOST_RECORDS;
+    columns.into_iter().try_for_each(|indices| compare_column(trial, reference, indices, is_short))
 }
 
 fn compare_head(trial: &mut Trial, reference: u16, rooms: [usize; 2]) -> Outcome {
@@ -184,6 +191,31 @@ pub fn value_at(image: &[u8], reference: u16, [record, field, component]: [u64; 
 
 pub fn value_read(value: &Value) -> ValueAnswer {
     ValueAnswer { kind: value.kind, bits: value.bits, ..ValueAnswer::default() }
+}
+
+/// A column, with room for a value of each record, one too few, more, and none. A longer one is not read whole.
+fn compare_column(trial: &mut Trial, reference: u16, indices: [u64; 2], is_short: bool) -> Outcome {
+    let room = if is_short { usize::MAX } else { 0 };
+    let whole = vset::read_column(trial.lent.image(), &trial.directory, reference, indices, room);
+    let needed = whole.as_ref().map_or(1, |(column, _)| column.bits.len());
+    rooms(trial, needed).into_iter().try_for_each(|room| compare_column_in(trial, reference, indices, room))
+}
+
+fn compare_column_in(trial: &mut Trial, reference: u16, indices: [u64; 2], room: usize) -> Outcome {
+    let [field, component] = indices;
+    let mut out = Table::new(room);
+    let library = library::read_column(trial.lent.image(), reference, field, component, out.lend());
+    let reading = vset::read_column(trial.lent.image(), &trial.directory, reference, indices, room);
+    if let Ok((column, cause)) = &reading {
+        trial.tally.count_column(column, *cause);
+    }
+    let arguments = [reference.into(), field as usize, component as usize, room];
+    trial.judge(Call::ReadColumn, &arguments, library, &reading, column_read)?;
+    holds(Call::ReadColumn, &arguments, &out, reading.as_ref().map_or(&[], |(column, _)| &column.bits))
+}
+
+pub fn column_read(column: &Column) -> ColumnAnswer {
+    ColumnAnswer { kind: column.kind, records: column.bits.len() as u64, ..ColumnAnswer::default() }
 }
 
 /// The indices of all values in a Vdata or, where there are too many, of some; and indices just and far too large.

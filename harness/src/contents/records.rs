@@ -1,4 +1,4 @@
-//! The records of a file: Vgroups, Vdatas and their values, and those of any kind that are not stored.
+//! The records of a file: Vgroups, Vdatas, their values and columns, and those of any kind that are not stored.
 
 use super::recorded::{Contents, Element, Group, Storage, Value, Vdata};
 use super::{refused, same, slot_of, Counts, Outcome};
@@ -91,7 +91,8 @@ fn head_refused(image: &[u8], reference: u16, number: u64) -> Outcome {
     let slot = slot_of(image, HEAD, reference)?;
     refused("head", library::read_vdata(image, reference, &mut [], &mut []), number, slot)?;
     refused("head", library::read_fields(image, reference, &mut []), number, slot)?;
-    refused("value", value_at(image, reference, [0; 3]), number, slot)
+    refused("value", value_at(image, reference, [0; 3]), number, slot)?;
+    refused("column", library::read_column(image, reference, 0, 0, &mut []), number, slot)
 }
 
 /// Type, size, offset and order of each field. libhdf4 tells no offsets: a field stands right behind the one before.
@@ -110,17 +111,23 @@ fn compare_values(image: &[u8], vdata: &Vdata, data: Option<&Storage>, counts: &
     let is_plain = matches!(data, Some(Storage::Plain(_)));
     same("recorded records", vdata.values.len() as u64, if is_plain { records } else { 0 })?;
     refused("value past the last record", value_at(image, reference, [records, 0, 0]), NO_VALUE, 0)?;
+    let after = library::read_column(image, reference, vdata.fields.len() as u64, 0, &mut []);
+    refused("column past the last field", after, NO_VALUE, 0)?;
     if records == 0 {
-        return Ok(());
+        return compare_columns(image, vdata);
     }
-    let first = value_at(image, reference, [0; 3]);
     let slot = || slot_of(image, DATA, reference);
-    match data {
-        Some(Storage::Plain(_)) => compare_records(image, vdata, counts),
-        Some(Storage::Linked(_) | Storage::Special(_)) => refused("value", first, STORAGE, slot()?),
-        Some(Storage::Unstored) => refused("value", first, NOT_STORED, slot()?),
-        None => refused("value", first, ABSENT, 0),
-    }
+    let (number, place) = match data {
+        Some(Storage::Plain(_)) => {
+            compare_records(image, vdata, counts)?;
+            return compare_columns(image, vdata);
+        }
+        Some(Storage::Linked(_) | Storage::Special(_)) => (STORAGE, slot()?),
+        Some(Storage::Unstored) => (NOT_STORED, slot()?),
+        None => (ABSENT, 0),
+    };
+    refused("value", value_at(image, reference, [0; 3]), number, place)?;
+    refused("column", library::read_column(image, reference, 0, 0, &mut []), number, place)
 }
 
 fn compare_records(image: &[u8], vdata: &Vdata, counts: &mut Counts) -> Outcome {
@@ -132,6 +139,21 @@ fn compare_records(image: &[u8], vdata: &Vdata, counts: &mut Counts) -> Outcome 
             same(&format!("value {indices:?}"), value_at(image, vdata.reference, indices), value)?;
             *counts.values.entry(vdata.fields[indices[1] as usize].code).or_default() += 1;
         }
+    }
+    Ok(())
+}
+
+/// Each component of each field in all records, none of them where there are none.
+fn compare_columns(image: &[u8], vdata: &Vdata) -> Outcome {
+    for (at, [_, field, component]) in indices_of(vdata, 0).into_iter().enumerate() {
+        let values = vdata.values.iter().map(|record| &record[at]);
+        let known: Vec<u64> = values.clone().map(|value| value.bits).collect();
+        let mut out = vec![0; known.len()];
+        let a = library::read_column(image, vdata.reference, field, component, &mut out);
+        let name = format!("column {field}, {component}");
+        same(&name, [a.number, a.place, a.records], [0, 0, vdata.records])?;
+        values.into_iter().try_for_each(|value| same(&name, a.kind, value.kind))?;
+        same(&name, out, known)?;
     }
     Ok(())
 }

@@ -36,7 +36,7 @@
 use std::fmt::Debug;
 
 /// The version of the library.
-pub const VERSION: &str = "0.3.0";
+pub const VERSION: &str = "0.3.1";
 
 /// The most bytes that an image has.
 pub const MOST_BYTES: usize = 2_147_483_647;
@@ -537,6 +537,24 @@ answer! {
     ValueAnswer: kind, bits
 }
 
+/// What was read of a column of a Vdata.
+#[repr(C)]
+#[derive(Clone, Copy, Debug, Default, PartialEq, Eq)]
+pub struct ColumnAnswer {
+    /// The refusal's number, 0 where the call is granted.
+    pub number: u64,
+    /// The refusal's place in the image.
+    pub place: u64,
+    /// [`SIGNED`], [`UNSIGNED`], [`FLOAT32`] or [`FLOAT64`]: that of every value.
+    pub kind: u64,
+    /// How many records: values that were written.
+    pub records: u64,
+}
+
+answer! {
+    ColumnAnswer: kind, records
+}
+
 /// What was listed of a Vgroup.
 #[repr(C)]
 #[derive(Clone, Copy, Debug, Default, PartialEq, Eq)]
@@ -701,6 +719,16 @@ extern "C" {
     ) -> PackAnswer;
     /// What [`read_value`] calls.
     pub fn hdf4_read_value(image: *const u8, n: usize, reference: u16, record: u64, field: u64, component: u64) -> ValueAnswer;
+    /// What [`read_column`] calls.
+    pub fn hdf4_read_column(
+        image: *const u8,
+        n: usize,
+        reference: u16,
+        field: u64,
+        component: u64,
+        out: *mut u64,
+        room: usize,
+    ) -> ColumnAnswer;
     /// What [`list_group`] calls.
     pub fn hdf4_list_group(image: *const u8, n: usize, reference: u16, list: *mut u16, room: usize) -> GroupListAnswer;
     /// What [`read_fields`] calls.
@@ -946,6 +974,14 @@ pub fn pack_vdata(
 #[inline]
 pub fn read_value(image: &[u8], reference: u16, record: u64, field: u64, component: u64) -> ValueAnswer {
     unsafe { hdf4_read_value(image.as_ptr(), image.len(), reference, record, field, component) }
+}
+
+/// Reads one component of one field in every record of a Vdata, in order: the bits of each value, as `hdf4_read_value` gives
+/// them. There must be room for a value of every record. A Vdata without records has a column without values, and needs no data
+/// of tag 1963.
+#[inline]
+pub fn read_column(image: &[u8], reference: u16, field: u64, component: u64, out: &mut [u64]) -> ColumnAnswer {
+    unsafe { hdf4_read_column(image.as_ptr(), image.len(), reference, field, component, out.as_mut_ptr(), out.len()) }
 }
 
 /// Lists the members of a Vgroup in order, each member of tag 1965 followed by its own members: tag and reference of each. There

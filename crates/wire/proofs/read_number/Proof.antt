@@ -1,83 +1,100 @@
--- `wire::read_number` meets its contract. The invariant: n is the number in the i highest bytes. Assumes nothing.
-use Prim.Native.Nat.{_≤_, _-_, min}
+-- `wire::read_number` meets its contract. Assumes nothing.
 use native.Mathlib.Omega.{arith}
-use mathlib.Core.Path.{_≡_}
-use borrow.Author.Needs.{needs}
-use Rattle.wire.specs.Numbers.{highAt, ReadsIn}
+use Rattle.wire.specs.declared.ByteOrder.the-variants.{BigEndian, LittleEndian}
 use Rattle.wire.proofs.Numbers
+use borrow.Author.Needs.{needs}
 use Rattle.wire.proofs.read_number.Statement.{statement}
 use Rattle.wire.proofs.read_number.Tie as tie
 
-abbrev Inv-loop : tie.InvT-loop
-Inv-loop s at width order count n₀ i₀ n i = (i ≤ count) × ReadsIn order i s (highAt order (count - i) at) n
+enum-told : tie.Need-enum-told
+enum-told c = search needs
 
-abbrev μ-loop : tie.MeasureT-loop
-μ-loop s at width order count n₀ i₀ n i = count - i
-
-returns : tie.Need-returns Inv-loop μ-loop
-returns c = Numbers.reads-past _ _ _ _ (c .if1 .taken)
-
-least-requires : tie.Need-least-requires Inv-loop μ-loop
-least-requires c κs = search needs
-
-loop-holds : tie.Need-loop-holds Inv-loop μ-loop
-loop-holds c = (omega arith, Numbers.reads-none _ _ _)
-
-mul-n : tie.Need-mul-n Inv-loop μ-loop
-mul-n c = omega (arith, Numbers.byte-room (c .before .loop .i) (c .before .loop .n) 0 (omega arith) (c .before .loop .inv .1 .small) (omega arith))
-
-sub-next-byte : tie.Need-sub-next-byte Inv-loop μ-loop
-sub-next-byte c = omega arith
-
-sub-next-byte-2 : tie.Need-sub-next-byte-2 Inv-loop μ-loop
-sub-next-byte-2 c = omega arith
-
-next-byte-requires : tie.Need-next-byte-requires Inv-loop μ-loop
-next-byte-requires c κs = omega arith
-
-read8-requires : tie.Need-read8-requires Inv-loop μ-loop
+read8-requires : tie.Need-read8-requires
 read8-requires c κs = search needs
 
-add-n : tie.Need-add-n Inv-loop μ-loop
-add-n c =
-    let l = c .before .before .before .loop in
-    record { fits = Numbers.byte-room (l .i) (l .n) (c .read8 .result) (omega arith) (l .inv .1 .small) (c .read8 .ensures .small) }
+read16-requires : tie.Need-read16-requires
+read16-requires c κs = search needs
 
-add-i : tie.Need-add-i Inv-loop μ-loop
-add-i c = omega arith
+read32-requires : tie.Need-read32-requires
+read32-requires c κs = search needs
 
-loop-less : tie.Need-loop-less Inv-loop μ-loop
-loop-less c = omega arith
+read64-requires : tie.Need-read64-requires
+read64-requires c κs = search needs
 
-loop-again : tie.Need-loop-again Inv-loop μ-loop
-loop-again c =
-    let l = c .before .before .before .loop in
-    (omega arith, Numbers.reads-next _ _ (l .i) _ _ _ _ (omega arith) (l .inv .1) (rw (c .before .next-byte .ensures) at (c .read8 .ensures)))
+read-bytes-requires : tie.Need-read-bytes-requires
+read-bytes-requires c κs = search needs
 
-returns-2 : tie.Need-returns-2 Inv-loop μ-loop
-returns-2 c =
-    let a = c .before .before .before .before .before .args in
-    let l = c .before .loop in
-    let e : l .i ≡ min (a .width) 8 = omega arith in
-    let z : c .before .before .least .result - l .i ≡ 0 = omega arith in
-    rw (← e, ← Numbers.high-none (a .order) (a .at), ← z) (l .inv .1)
+enum-told-2 : tie.Need-enum-told-2
+enum-told-2 c = search needs
+
+read8-requires-2 : tie.Need-read8-requires-2
+read8-requires-2 c κs = search needs
+
+low16-requires : tie.Need-low16-requires
+low16-requires c κs = search needs
+
+low32-requires : tie.Need-low32-requires
+low32-requires c κs = search needs
+
+low64-requires : tie.Need-low64-requires
+low64-requires c κs = search needs
+
+read-bytes-requires-2 : tie.Need-read-bytes-requires-2
+read-bytes-requires-2 c κs = search needs
+
+returns : tie.Need-returns
+returns c = Numbers.reads-asked _ BigEndian (c .before .before .enum-told .given .1) _ 1 (c .before .match2 .keys1) (omega arith) _ _ _ (c .read8 .ensures)
+
+returns-2 : tie.Need-returns-2
+returns-2 c = Numbers.reads-asked _ BigEndian (c .before .before .enum-told .given .1) _ 2 (c .before .match2 .keys2) (omega arith) _ _ _ (c .read16 .ensures)
+
+returns-3 : tie.Need-returns-3
+returns-3 c = Numbers.reads-asked _ BigEndian (c .before .before .enum-told .given .1) _ 4 (c .before .match2 .keys3) (omega arith) _ _ _ (c .read32 .ensures)
+
+returns-4 : tie.Need-returns-4
+returns-4 c = Numbers.reads-asked _ BigEndian (c .before .before .enum-told .given .1) _ 8 (c .before .match2 .keys4) (omega arith) _ _ _ (c .read64 .ensures)
+
+returns-5 : tie.Need-returns-5
+returns-5 c = search needs
+
+returns-6 : tie.Need-returns-6
+returns-6 c = Numbers.reads-asked _ LittleEndian (c .before .before .enum-told2 .given .1) _ 1 (c .before .match3 .keys1) (omega arith) _ _ _ (Numbers.reads-one LittleEndian _ _ _ (c .read82 .ensures))
+
+returns-7 : tie.Need-returns-7
+returns-7 c = Numbers.reads-asked _ LittleEndian (c .before .before .enum-told2 .given .1) _ 2 (c .before .match3 .keys2) (omega arith) _ _ _ (c .low16 .ensures)
+
+returns-8 : tie.Need-returns-8
+returns-8 c = Numbers.reads-asked _ LittleEndian (c .before .before .enum-told2 .given .1) _ 4 (c .before .match3 .keys3) (omega arith) _ _ _ (c .low32 .ensures)
+
+returns-9 : tie.Need-returns-9
+returns-9 c = Numbers.reads-asked _ LittleEndian (c .before .before .enum-told2 .given .1) _ 8 (c .before .match3 .keys4) (omega arith) _ _ _ (c .low64 .ensures)
+
+returns-10 : tie.Need-returns-10
+returns-10 c = search needs
 
 pub read-number-spec : {M : Type 1} → statement M
 read-number-spec =
     tie.close
     (tie.spec
-    Inv-loop
-    μ-loop
-    returns
-    least-requires
-    loop-holds
-    mul-n
-    sub-next-byte
-    sub-next-byte-2
-    next-byte-requires
+    enum-told
     read8-requires
-    add-n
-    add-i
-    loop-less
-    loop-again
-    returns-2)
+    read16-requires
+    read32-requires
+    read64-requires
+    read-bytes-requires
+    enum-told-2
+    read8-requires-2
+    low16-requires
+    low32-requires
+    low64-requires
+    read-bytes-requires-2
+    returns
+    returns-2
+    returns-3
+    returns-4
+    returns-5
+    returns-6
+    returns-7
+    returns-8
+    returns-9
+    returns-10)

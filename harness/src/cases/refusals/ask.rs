@@ -24,7 +24,7 @@ pub struct Ask {
     pub desk: u32,
     pub tag: u16,
     pub reference: u16,
-    /// Record, field and component.
+    /// Record, field and component; of a column no record.
     pub indices: [u64; 3],
     /// The data of an edit.
     pub data: Image,
@@ -39,6 +39,7 @@ pub struct Rooms {
     pub bytes: usize,
     pub shorts: usize,
     pub longs: usize,
+    pub numbers: usize,
     pub fields: usize,
 }
 
@@ -56,6 +57,7 @@ pub struct Written {
     pub bytes: Vec<u8>,
     pub shorts: Vec<u16>,
     pub longs: Vec<u32>,
+    pub numbers: Vec<u64>,
     pub fields: Vec<Field>,
 }
 

@@ -28,6 +28,7 @@ struct Tables {
     bytes: Table<u8>,
     shorts: Table<u16>,
     longs: Table<u32>,
+    numbers: Table<u64>,
     fields: Table<Field>,
 }
 
@@ -66,7 +67,8 @@ fn watch((memory, range): &(Vec<u8>, Range<usize>)) -> Lent<'_> {
 
 fn call(ask: &Ask, image: &[u8], fallback: &[u8], tables: &mut Tables) -> Vec<u64> {
     let Ask { tag, reference, .. } = *ask;
-    let Tables { bytes, shorts, longs, fields } = tables;
+    let Tables { bytes, shorts, longs, numbers, fields } = tables;
+    let [_, field, component] = ask.indices;
     match ask.call {
         Call::Open => library::open(image).numbers(),
         Call::Find => library::find(image, tag, reference).numbers(),
@@ -82,6 +84,7 @@ fn call(ask: &Ask, image: &[u8], fallback: &[u8], tables: &mut Tables) -> Vec<u6
         Call::ReadVdata => library::read_vdata(image, reference, shorts.lend(), longs.lend()).numbers(),
         Call::ReadFields => library::read_fields(image, reference, fields.lend()).numbers(),
         Call::ReadValue => value_at(image, reference, ask.indices).numbers(),
+        Call::ReadColumn => library::read_column(image, reference, field, component, numbers.lend()).numbers(),
         Call::ListGroup => library::list_group(image, reference, shorts.lend()).numbers(),
         other => panic!("{other:?} reads no image"),
     }
@@ -134,6 +137,7 @@ impl Tables {
             bytes: Table::new(rooms.bytes),
             shorts: Table::new(rooms.shorts),
             longs: Table::new(rooms.longs),
+            numbers: Table::new(rooms.numbers),
             fields: Table::new(rooms.fields),
         }
     }
@@ -143,7 +147,8 @@ impl Tables {
         let bytes = || self.bytes.difference(&written.bytes);
         let shorts = || self.shorts.difference(&written.shorts);
         let longs = || self.longs.difference(&written.longs);
+        let numbers = || self.numbers.difference(&written.numbers);
         let fields = || self.fields.difference(&written.fields);
-        bytes().or_else(shorts).or_else(longs).or_else(fields)
+        bytes().or_else(shorts).or_else(longs).or_else(numbers).or_else(fields)
     }
 }

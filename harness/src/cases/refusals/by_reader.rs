@@ -6,7 +6,7 @@ use crate::compare::edits::expected;
 use crate::compare::packing::packed;
 use crate::compare::records::{answer, array_read, dimension_read, number_type_read};
 use crate::compare::storage::{self as compared, chosen, copied, sized, viewed};
-use crate::compare::vset::{field_names, fields_of, group_listed, group_read, value_read, vdata_read};
+use crate::compare::vset::{column_read, field_names, fields_of, group_listed, group_read, value_read, vdata_read};
 use crate::editor::{self, Request};
 use crate::packing;
 use crate::reader;
@@ -59,6 +59,13 @@ fn read(ask: &Ask, image: &[u8], opening: &Opening) -> Answer {
         Call::ReadNumberType => only(answer(&records::read_number_type(image, opening, reference), number_type_read)),
         Call::ReadDimension => only(answer(&records::read_dimension(image, opening, tag, reference), dimension_read)),
         Call::ReadValue => only(answer(&vset::read_value(image, opening, reference, ask.indices), value_read)),
+        Call::ReadColumn => {
+            let [_, field, component] = ask.indices;
+            let reading = vset::read_column(image, opening, reference, [field, component], rooms.numbers);
+            let numbers = answer(&reading, column_read);
+            let bits = reading.map_or(Vec::new(), |(column, _)| column.bits);
+            with(numbers, Written { numbers: bits, ..Written::default() })
+        }
         _ => read_lists(ask.call, image, opening, reference, rooms),
     }
 }

@@ -86,7 +86,7 @@ impl Must {
     }
 }
 
-const ALL: [Must; 33] = [
+const ALL: [Must; 34] = [
     OPEN,
     FIND,
     LIST,
@@ -115,6 +115,7 @@ const ALL: [Must; 33] = [
     VDATA,
     FIELDS,
     VALUE,
+    COLUMN,
     PACK_NUMBER_TYPE,
     PACK_DIMENSION,
     PACK_ARRAY,
@@ -430,7 +431,7 @@ const HEAD: Must = Must {
         (&["15 cut", "15 version", "15 interlace", "15 count", "15 order"], TYPES),
         (TYPES, SIZES),
     ],
-    ..reading(&[Call::ReadVdata, Call::ReadFields, Call::ReadValue], &[], &[])
+    ..reading(&[Call::ReadVdata, Call::ReadFields, Call::ReadValue, Call::ReadColumn], &[], &[])
 };
 
 /// A code of no type, below 16384 and from there on.
@@ -474,6 +475,21 @@ const VALUE: Must = reading(
         (&["17 record", "17 field", "17 component"], &["11 data", "29 data", "12 data", "15 data"]),
         (&["29 data"], &["12 data", "15 data"]),
         (&["12 data"], &["15 data"]),
+    ],
+);
+
+/// So do they for a column. Where there are no records neither data nor room are asked about.
+const COLUMN: Must = reading(
+    &[Call::ReadColumn],
+    &["17 field", "17 component", "11 data", "29 data", "12 data", "15 data", "14"],
+    &[
+        (&["11"], &["17 field", "17 component", "29 data", "12 data", "15 data", "14"]),
+        (BAD_HEAD, &["17 field", "17 component", "11 data", "29 data", "12 data", "15 data", "14"]),
+        (&["15 count"], &["17 field"]),
+        (&["17 field", "17 component"], &["11 data", "29 data", "12 data", "15 data", "14"]),
+        (&["29 data"], &["12 data", "15 data"]),
+        (&["12 data"], &["15 data"]),
+        (&["11 data", "29 data", "12 data", "15 data"], &["14"]),
     ],
 );
 

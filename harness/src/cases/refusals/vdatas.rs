@@ -1,4 +1,4 @@
-//! Vdata heads, by both calls that read them, and Vdata values.
+//! Vdata heads, by both calls that read them, Vdata values, and columns of them.
 
 use super::ask::{Ask, Rooms, Written};
 use super::types::{unknown_types, HEAD, TYPE};
@@ -18,6 +18,7 @@ const EXTENDED_DATA: u16 = 18347;
 
 /// Where the numbers of a head stand in it, of the sizes, offsets and orders of two fields the first.
 const INTERLACE: usize = 0;
+const RECORDS: usize = 2;
 const RECORD_SIZE: usize = 6;
 const COUNT: usize = 8;
 const SIZE: usize = 14;
@@ -103,12 +104,17 @@ const SHORT_DATA: [Fault; 2] = [
     fault("15 data", "no bytes of data", [15, 34], |ask| ask.image.put_length(DATA, 0)),
 ];
 
+const SMALL_COLUMN: [Fault; 2] = [
+    fault("14", "room for one record of two", [14, 0], |ask| ask.rooms.numbers = 1),
+    fault("14", "no room", [14, 0], |ask| ask.rooms.numbers = 0),
+];
+
 /// What is judged of a head that is there, before the room, the indices and the data.
 const OF_HEAD: [&[Fault]; 5] = [&UNSTORED, &EXTENDED, &LAYOUT, &UNKNOWN_TYPE, &SIZES];
 
 pub fn cases() -> Vec<Case> {
     let heads = [heads_of(read(), &SMALL), heads_of(read_fields(), &SMALL_TABLE)];
-    [heads.concat(), long_heads(), values()].concat()
+    [heads.concat(), long_heads(), values(), columns(), columns_of_none()].concat()
 }
 
 /// Both calls answer the same numbers.
@@ -175,6 +181,59 @@ fn values() -> Vec<Case> {
     .concat()
 }
 
+/// The head, the indices, the data, then the room.
+fn columns() -> Vec<Case> {
+    let read = [column("the second field", [1, 0], &[1, 2], &[2, 0xffff_ffff_8000_0000])];
+    let (indices, small) = (over(&INDICES[2..], &read), over(&SMALL_COLUMN, &read));
+    let (extended, short) = (over(&EXTENDED_VALUES, &read), over(&SHORT_DATA, &read));
+    let data = [over(&NO_DATA, &read), over(&UNSTORED_DATA, &read), extended.clone(), short.clone()].concat();
+    let later = [&indices[..], &data, &small].concat();
+    let of_data = [&NO_DATA[..], &UNSTORED_DATA, &EXTENDED_VALUES, &SHORT_DATA].concat();
+    [
+        head_faults(&read),
+        over(&OF_HEAD.concat(), &later),
+        over(&ABSENT, &indices),
+        over(&ABSENT, &data[1..]),
+        over(&ABSENT, &small),
+        over(&INDICES[2..], &data),
+        over(&INDICES[2..], &small),
+        over(&UNSTORED_DATA, &[&extended[..], &short].concat()),
+        over(&EXTENDED_VALUES, &short),
+        over(&of_data, &small),
+        later,
+        read.into(),
+        vec![column("the first field", [0, 0], &[1, 2], &[1, 0xffff_ffff_ffff_fffe]), by_field()],
+    ]
+    .concat()
+}
+
+/// A column with room for one record more.
+fn column(of: &'static str, [field, component]: [u64; 2], values: &[u64], numbers: &[u64]) -> Case {
+    let rooms = Rooms { numbers: numbers.len() + 1, ..Rooms::default() };
+    let indices = [0, field, component];
+    let ask = Ask { reference: 1, indices, rooms, ..Ask::on(Call::ReadColumn, vdata()) };
+    granted(of, ask, values, Written { numbers: numbers.to_vec(), ..Written::default() })
+}
+
+/// The second component of the first of two fields of two records that stand by field; there is exactly enough room.
+fn by_field() -> Case {
+    let head = vdata_head(1, 2, 5, &[[16407, 4, 0, 2], [21, 1, 4, 1]]);
+    let image = file(&[(HEAD_TAG, 1, head), (DATA_TAG, 1, hex("0100 0200 0300 fffe 07 08"))]);
+    let rooms = Rooms { numbers: 2, ..Rooms::default() };
+    let ask = Ask { reference: 1, indices: [0, 0, 1], rooms, ..Ask::on(Call::ReadColumn, image) };
+    granted("two records by field", ask, &[2, 2], Written { numbers: vec![2, 0xfeff], ..Written::default() })
+}
+
+/// Without records the head and the indices are judged, but no data and no room.
+fn columns_of_none() -> Vec<Case> {
+    let mut read = column("no records", [1, 0], &[1, 0], &[]);
+    read.steps[0].ask.image.put32_in(HEAD, RECORDS, 0);
+    let not_met = [&NO_DATA[..], &UNSTORED_DATA, &EXTENDED_VALUES, &SHORT_DATA, &SMALL_COLUMN[1..]].concat();
+    let unmet: Vec<Case> = not_met.iter().map(|fault| fault.unmet(&read)).collect();
+    let faults = [&ABSENT[..], &OF_HEAD.concat(), &INDICES[2..]].concat();
+    [over(&faults, &[read.clone()]), unmet, vec![read]].concat()
+}
+
 /// Two heads, by each call that reads a head.
 fn long_heads() -> Vec<Case> {
     let numbers = [0, 1, 256, 256, 2630, 0, 2632, 0, 0, 0, 3, 0];
@@ -185,7 +244,10 @@ fn long_heads() -> Vec<Case> {
     let written = Written { fields: (0..256).map(long_field).collect(), ..Written::default() };
     let read_fields = granted("256 fields", long_ask(Call::ReadFields), &numbers, written);
     let value = granted("a value of 256", long_ask(Call::ReadValue), &[1, 7], Written::default());
-    [long_head(read, &SMALL[1..2]), long_head(read_fields, &SMALL_TABLE[1..]), long_head(value, &INDICES[..1])].concat()
+    let written = Written { numbers: vec![7], ..Written::default() };
+    let column = granted("a column of 256", long_ask(Call::ReadColumn), &[1, 1], written);
+    let heads = [long_head(read, &SMALL[1..2]), long_head(read_fields, &SMALL_TABLE[1..])];
+    [heads.concat(), long_head(value, &INDICES[..1]), long_head(column, &INDICES[3..4])].concat()
 }
 
 /// The element, the count, then the types and what is judged last.
@@ -200,7 +262,7 @@ fn long_ask(call: Call) -> Ask {
     let heads = [256, 257].map(long);
     let [first, second] = heads;
     let image = file(&[(HEAD_TAG, 1, first), (HEAD_TAG, 2, second), (DATA_TAG, 1, vec![7; 256])]);
-    let rooms = Rooms { shorts: 1100, longs: 600, fields: 300, ..Rooms::default() };
+    let rooms = Rooms { shorts: 1100, longs: 600, numbers: 2, fields: 300, ..Rooms::default() };
     Ask { reference: 1, indices: [0, 255, 0], rooms, ..Ask::on(call, image) }
 }
 

@@ -18,17 +18,19 @@ read32-requires-2 : tie.Need-read32-requires-2
 read32-requires-2 c κs = search needs
 
 first-length-requires : tie.Need-first-length-requires
-first-length-requires c κs = c .before .before .before .before .before .before .pre
+first-length-requires c κs = search needs
 
 read32-requires-3 : tie.Need-read32-requires-3
 read32-requires-3 c κs = search needs
 
 returns : tie.Need-returns
-returns c =
-    record {
-      is = rw (c .before .first-length .ensures, c .before .before .read322 .ensures .is, c .before .before .before .read16 .ensures .is, c .before .before .before .before .read32 .ensures .is, c .read323 .ensures .is) (sym (Descriptions.sparse-says _ (c .before .before .before .before .before .if1 .taken) _));
-      small = record { length = c .before .before .read322 .ensures .small; entries = c .read323 .ensures .small };
-    }
+returns c = (
+  record {
+    is = rw (c .before .first-length .ensures .0, c .before .before .before .read322 .ensures .is, c .before .before .before .before .read16 .ensures .is, c .before .before .before .before .before .read32 .ensures .is, c .read323 .ensures .is) (sym (Descriptions.sparse-says _ (c .before .before .before .before .before .before .if1 .taken) _));
+    small = record { length = c .before .before .before .read322 .ensures .small; entries = c .read323 .ensures .small };
+  },
+  c .before .first-length .ensures .1,
+)
 
 read32-requires-4 : tie.Need-read32-requires-4
 read32-requires-4 c κs = search needs
@@ -45,15 +47,17 @@ read32-requires-7 c κs = search needs
 read16-requires-2 : tie.Need-read16-requires-2
 read16-requires-2 c κs = search needs
 
-cast-t15 : tie.Need-cast-t15
-cast-t15 c = search needs
+cast-t17 : tie.Need-cast-t17
+cast-t17 c = search needs
 
 returns-2 : tie.Need-returns-2
-returns-2 c =
-    record {
-      is = rw (c .before .before .before .before .read324 .ensures .is, c .before .before .before .read325 .ensures .is, c .before .before .read326 .ensures .is, c .before .read327 .ensures .is, c .read162 .ensures .is) (sym (Descriptions.full-says _ (c .before .before .before .before .before .if1 .left) _));
-      small = record { length = c .before .before .before .before .read324 .ensures .small; entries = c .before .read327 .ensures .small };
-    }
+returns-2 c = (
+  record {
+    is = rw (c .before .before .before .before .read324 .ensures .is, c .before .before .before .read325 .ensures .is, c .before .before .read326 .ensures .is, c .before .read327 .ensures .is, c .read162 .ensures .is) (sym (Descriptions.full-says _ (c .before .before .before .before .before .if1 .left) _));
+    small = record { length = c .before .before .before .before .read324 .ensures .small; entries = c .before .read327 .ensures .small };
+  },
+  c .before .before .before .before .before .before .before .before .pre .1,
+)
 
 pub describe-spec : {M : Type 1} → statement M
 describe-spec =
@@ -71,5 +75,5 @@ describe-spec =
     read32-requires-6
     read32-requires-7
     read16-requires-2
-    cast-t15
+    cast-t17
     returns-2)

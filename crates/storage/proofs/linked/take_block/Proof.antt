@@ -2,9 +2,7 @@
 use native.Mathlib.Nat.{suc-ne-zero}
 use mathlib.Core.Path.{_≡_, sym, ap, _∙_}
 use mathlib.Core.Bool.{false}
-use lib.ListN.{length}
 use Rattle.wire.specs.Numbers.{put}
-use Rattle.wire.proofs.Numbers
 use Rattle.storage.specs.Tables.{neverWritten}
 use Rattle.storage.proofs.Tables
 use borrow.Author.Needs.{needs}
@@ -25,13 +23,13 @@ same-length : tie.Need-same-length
 same-length c = search needs
 
 returns : tie.Need-returns
-returns c = Tables.gave-zeros _ _ _ _ _ _ (sym (c .before .before .before .before .before .never-written .ensures) ∙ c .before .before .before .before .if1 .taken) _ (c .before .before .write-zeros .ensures)
+returns c = (Tables.gave-zeros _ _ _ _ _ _ (sym (c .before .before .before .before .before .never-written .ensures) ∙ c .before .before .before .before .if1 .taken) _ (c .before .before .write-zeros .ensures), c .before .before .before .before .before .before .before .before .pre .1)
 
 reach-requires : tie.Need-reach-requires
-reach-requires c κs = (c .before .before .before .before .pre, suc-ne-zero 24, suc-ne-zero 25)
+reach-requires c κs = (c .before .before .before .before .before .pre .0, c .before .before .before .before .before .pre .1, suc-ne-zero 24, suc-ne-zero 25)
 
 returns-2 : tie.Need-returns-2
-returns-2 c = Tables.gave-none _ _ _ _ _ _ (written (c .before .before .before)) _ (c .before .before .reach .ensures) (c .if2 .taken)
+returns-2 c = (Tables.gave-none _ _ _ _ _ _ (written (c .before .before .before .before)) _ (c .before .before .reach .ensures .0) (c .if2 .taken), c .before .before .reach .ensures .1)
 
 part-requires : tie.Need-part-requires
 part-requires c κs = search needs
@@ -43,7 +41,10 @@ same-length-2 : tie.Need-same-length-2
 same-length-2 c = search needs
 
 returns-3 : tie.Need-returns-3
-returns-3 c = Tables.gave-bytes _ _ _ _ _ _ (written (c .before .before .before .before .before .before .before .before)) _ (c .before .before .before .before .before .before .before .reach .ensures) (c .before .before .before .before .before .if2 .left) _ (c .before .before .write-bytes .ensures ∙ ap (put _ _) (c .before .before .before .part .ensures))
+returns-3 c = (
+  Tables.gave-bytes _ _ _ _ _ _ (written (c .before .before .before .before .before .before .before .before .before)) _ (c .before .before .before .before .before .before .before .reach .ensures .0) (c .before .before .before .before .before .if2 .left) _ (c .before .before .write-bytes .ensures ∙ ap (put _ _) (c .before .before .before .part .ensures)),
+  c .before .before .before .before .before .before .before .reach .ensures .1,
+)
 
 pub take-block-spec : {M : Type 1} → statement M
 take-block-spec =

@@ -1,29 +1,18 @@
 -- `vdata::value::index_fault` meets its contract. Assumes nothing.
-use native.Mathlib.Omega.{arith}
-use mathlib.Core.Path.{sym, ap}
-use borrow.Author.Needs.{needs}
-use Rattle.vhead.proofs.Heads
+use mathlib.Core.Path.{sym, _∙_}
 use Rattle.vdata.proofs.Values
+use borrow.Author.Needs.{needs}
 use Rattle.vdata.proofs.value.index_fault.Statement.{statement}
 use Rattle.vdata.proofs.value.index_fault.Tie as tie
 
 returns : tie.Need-returns
 returns c = sym (Values.index-record _ _ _ _ _ (c .if1 .taken))
 
+field-fault-requires : tie.Need-field-fault-requires
+field-fault-requires c κs = search needs
+
 returns-2 : tie.Need-returns-2
-returns-2 c = sym (Values.index-field _ _ _ _ _ (c .before .before .if1 .left) (c .if2 .taken))
-
-cast-numbers-at : tie.Need-cast-numbers-at
-cast-numbers-at c = omega (arith, c .if2 .left, ap (λ h. h .fields) (c .before .before .before .before .before .pre), Heads.fields-few (c .before .before .before .before .before .args .part .now) (λ i. c .before .before .before .before .shared-slice-known .given i .fits))
-
-numbers-at-requires : tie.Need-numbers-at-requires
-numbers-at-requires c κs = search needs
-
-returns-3 : tie.Need-returns-3
-returns-3 c = sym (Values.index-component _ _ _ _ _ (c .before .before .before .before .before .if1 .left) (c .before .before .before .if2 .left) _ (Values.same-field _ _ (c .before .before .before .before .before .before .before .before .pre) _ _ (c .before .before .numbers-at .ensures .0)) (c .if3 .taken))
-
-returns-4 : tie.Need-returns-4
-returns-4 c = sym (Values.index-passes _ _ _ _ _ (c .before .before .before .before .before .if1 .left) (c .before .before .before .if2 .left) _ (Values.same-field _ _ (c .before .before .before .before .before .before .before .before .pre) _ _ (c .before .before .numbers-at .ensures .0)) (c .if3 .left))
+returns-2 c = c .field-fault .ensures ∙ sym (Values.index-goes _ _ _ _ _ (c .before .if1 .left))
 
 pub index-fault-spec : {M : Type 1} → statement M
-index-fault-spec = tie.close (tie.spec returns returns-2 cast-numbers-at numbers-at-requires returns-3 returns-4)
+index-fault-spec = tie.close (tie.spec returns field-fault-requires returns-2)
