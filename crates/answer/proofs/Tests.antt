@@ -102,6 +102,7 @@ in_append x (y ∷ xs) ys (inr h) = elim (in_append x xs ys h) [ inl i ↦ inl (
 
 -- one more at the end
 pub in_parted : (x : ℕ) (l : List ℕ) → In x l → (before : List ℕ) × (after : List ℕ) × (l ≡ before ++ (x ∷ after))
+in_parted x [] i = elim i [ ]
 in_parted x (y ∷ l) (inl e) = ([], l, ap (λ z. z ∷ l) (sym e))
 in_parted x (y ∷ l) (inr i) = let r = in_parted x l i in (y ∷ r.0, r.1, ap (λ m. y ∷ m) r.2)
 

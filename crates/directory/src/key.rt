@@ -17,7 +17,7 @@ const MARKS: usize = 65536;
 // How many base tags have marks of their own. A tag and its extended form are equal modulo that.
 const KINDS: usize = 16384;
 
-#[derive(Drop)]
+#[derive(Clone, Copy)]
 pub struct Key {
     pub kind: usize,
     pub reference: usize,

@@ -1,4 +1,6 @@
 // The directory of an HDF4 image: data descriptor blocks and their slots. Opening is the door that every call goes through first.
+#![tactic(auto)]
+
 mod chain;
 pub mod cursor;
 mod doubts;
@@ -29,21 +31,21 @@ use gap::Gap;
 use key::Key;
 
 // How many blocks and slots the chain has, and how many of the slots are live.
-#[derive(Drop)]
+#[derive(Clone, Copy)]
 pub struct Counts {
     pub blocks: usize,
     pub slots: usize,
     pub live: usize,
 }
 
-#[derive(Drop)]
+#[derive(Clone, Copy)]
 pub enum Opened {
     Accepted(Counts),
     Refused(Refusal),
 }
 
 // The place of a slot.
-#[derive(Drop)]
+#[derive(Clone, Copy)]
 pub enum Found {
     At(usize),
     Missing(Refusal),
@@ -59,7 +61,7 @@ fn is_hdf(image: &[u8]) -> bool
 }
 
 // What the rules of slots came to: the number of the first that is broken, 0 where none is, and its slot; how many slots are live; and a gap.
-#[derive(Drop)]
+#[derive(Clone, Copy)]
 pub struct Checked {
     pub fault: usize,
     pub place: usize,

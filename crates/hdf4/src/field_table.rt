@@ -12,7 +12,7 @@ use vhead::head::Answered;
 
 // A field of a Vdata.
 #[repr(C)]
-#[derive(Drop)]
+#[derive(Clone, Copy)]
 pub struct Field {
     // C: type. The type's code, as it is stored.
     pub code: u16,
@@ -29,7 +29,7 @@ pub struct Field {
 }
 
 // The numbers to answer, where the head's record starts in the image and how many bytes it has, and how many fields go to the table.
-#[derive(Drop)]
+#[derive(Clone, Copy)]
 pub struct Reading {
     pub answer: VdataAnswer,
     pub start: usize,
@@ -91,7 +91,7 @@ fn field_at(image: &[u8], r: Reading, i: usize) -> Field
 #[unsafe(no_mangle)]
 pub extern "C" fn hdf4_read_fields(image: &[u8], reference: u16, table: &mut [Field]) -> VdataAnswer
     ensures { Does (head_within image.now reference (length table.old)) (structs_of image.now reference)
-        table.old table.new (vdataAnswer result) }
+        table.old table.new (vdata_answer result) }
 {
     let r = read_head(image, reference, table.len());
     let n = count_of(r);

@@ -9,6 +9,8 @@
 //
 // No function allocates memory or keeps anything between calls. On x86-64 none keeps more than 1,024 bytes of stack, but for
 // hdf4_list_group, which says what it keeps.
+#![tactic(auto)]
+
 mod field_table;
 pub mod limits;
 mod record_calls;
@@ -25,7 +27,7 @@ ghost use Rattle.storage.specs.Copies.{copy_of, element_bytes};
 ghost use Rattle.storage.specs.Choices.{choose_of};
 ghost use Rattle.journal.specs.Outcomes.{edited_numbers};
 ghost use Rattle.journal.specs.Buffers.{add_in, replace_in, remove_in, undo_in};
-ghost use Rattle.hdf4.specs.Answers.{openAnswer, findAnswer, listAnswer, viewAnswer, sizeAnswer, copyAnswer, chooseAnswer, editAnswer, Tells, Edits};
+ghost use Rattle.hdf4.specs.Answers.{open_answer, find_answer, list_answer, view_answer, size_answer, copy_answer, choose_answer, edit_answer, Tells, Edits};
 
 use directory::listing::Listed;
 use directory::{Found, Opened};
@@ -37,7 +39,7 @@ use storage::view::Viewed;
 
 // What the directory of an image has.
 #[repr(C)]
-#[derive(Drop)]
+#[derive(Clone, Copy)]
 pub struct OpenAnswer {
     pub number: u64,
     pub place: u64,
@@ -51,7 +53,7 @@ pub struct OpenAnswer {
 
 // Where an element's descriptor stands.
 #[repr(C)]
-#[derive(Drop)]
+#[derive(Clone, Copy)]
 pub struct FindAnswer {
     pub number: u64,
     pub place: u64,
@@ -61,7 +63,7 @@ pub struct FindAnswer {
 
 // What was listed.
 #[repr(C)]
-#[derive(Drop)]
+#[derive(Clone, Copy)]
 pub struct ListAnswer {
     pub number: u64,
     pub place: u64,
@@ -71,7 +73,7 @@ pub struct ListAnswer {
 
 // An element's own part of the image.
 #[repr(C)]
-#[derive(Drop)]
+#[derive(Clone, Copy)]
 pub struct ViewAnswer {
     pub number: u64,
     pub place: u64,
@@ -83,7 +85,7 @@ pub struct ViewAnswer {
 
 // How many bytes a copy of an element has.
 #[repr(C)]
-#[derive(Drop)]
+#[derive(Clone, Copy)]
 pub struct SizeAnswer {
     pub number: u64,
     pub place: u64,
@@ -93,7 +95,7 @@ pub struct SizeAnswer {
 
 // What was copied.
 #[repr(C)]
-#[derive(Drop)]
+#[derive(Clone, Copy)]
 pub struct CopyAnswer {
     pub number: u64,
     pub place: u64,
@@ -105,7 +107,7 @@ pub struct CopyAnswer {
 
 // An element's own part of one of two images.
 #[repr(C)]
-#[derive(Drop)]
+#[derive(Clone, Copy)]
 pub struct ChooseAnswer {
     pub number: u64,
     pub place: u64,
@@ -119,7 +121,7 @@ pub struct ChooseAnswer {
 
 // What an edit or an undo left.
 #[repr(C)]
-#[derive(Drop)]
+#[derive(Clone, Copy)]
 pub struct EditAnswer {
     pub number: u64,
     pub place: u64,
@@ -130,7 +132,7 @@ pub struct EditAnswer {
 // Opens an image: counts its directory, or finds the first rule that it breaks.
 #[unsafe(no_mangle)]
 pub extern "C" fn hdf4_open(image: &[u8]) -> OpenAnswer
-    ensures { openAnswer result ≡ open_of image.now }
+    ensures { open_answer result ≡ open_of image.now }
 {
     let opened = directory::open(image);
     match opened {
@@ -154,7 +156,7 @@ pub extern "C" fn hdf4_open(image: &[u8]) -> OpenAnswer
 // Finds the live slot that has the base tag of a tag and a reference.
 #[unsafe(no_mangle)]
 pub extern "C" fn hdf4_find(image: &[u8], tag: u16, reference: u16) -> FindAnswer
-    ensures { findAnswer result ≡ find_of image.now tag reference }
+    ensures { find_answer result ≡ find_of image.now tag reference }
 {
     let found = directory::find(image, tag, reference);
     match found {
@@ -177,7 +179,7 @@ pub extern "C" fn hdf4_find(image: &[u8], tag: u16, reference: u16) -> FindAnswe
 #[unsafe(no_mangle)]
 pub extern "C" fn hdf4_list(image: &[u8], table: &mut [u32]) -> ListAnswer
     ensures { Does (list_of image.now (length table.old)) (elements_of image.now)
-        table.old table.new (listAnswer result) }
+        table.old table.new (list_answer result) }
 {
     let listed = directory::listing::list(image, table);
     match listed {
@@ -197,7 +199,7 @@ pub extern "C" fn hdf4_list(image: &[u8], table: &mut [u32]) -> ListAnswer
 // Finds an element's own part of the image. The element is plain: an extended one is refused at its slot.
 #[unsafe(no_mangle)]
 pub extern "C" fn hdf4_view(image: &[u8], tag: u16, reference: u16) -> ViewAnswer
-    ensures { viewAnswer result ≡ view_of image.now tag reference }
+    ensures { view_answer result ≡ view_of image.now tag reference }
 {
     let viewed = storage::view::numbers(image, tag, reference);
     match viewed {
@@ -220,7 +222,7 @@ pub extern "C" fn hdf4_view(image: &[u8], tag: u16, reference: u16) -> ViewAnswe
 // judged, and their tables and blocks are not: hdf4_copy may still refuse these.
 #[unsafe(no_mangle)]
 pub extern "C" fn hdf4_size(image: &[u8], tag: u16, reference: u16) -> SizeAnswer
-    ensures { sizeAnswer result ≡ size_of image.now tag reference }
+    ensures { size_answer result ≡ size_of image.now tag reference }
 {
     let sized = storage::size::size(image, tag, reference);
     match sized {
@@ -243,7 +245,7 @@ pub extern "C" fn hdf4_size(image: &[u8], tag: u16, reference: u16) -> SizeAnswe
 #[unsafe(no_mangle)]
 pub extern "C" fn hdf4_copy(image: &[u8], tag: u16, reference: u16, out: &mut [u8]) -> CopyAnswer
     ensures { Does (copy_of image.now tag reference (length out.old)) (element_bytes image.now tag reference)
-        out.old out.new (copyAnswer result) }
+        out.old out.new (copy_answer result) }
 {
     let copied = storage::copy::copy(image, tag, reference, out);
     match copied {
@@ -272,7 +274,7 @@ pub extern "C" fn hdf4_choose(
     tag: u16,
     reference: u16,
 ) -> ChooseAnswer
-    ensures { chooseAnswer result ≡ choose_of current.now fallback.now tag reference }
+    ensures { choose_answer result ≡ choose_of current.now fallback.now tag reference }
 {
     let chosen = storage::choose::numbers(current, fallback, tag, reference);
     match chosen {
@@ -301,7 +303,7 @@ pub extern "C" fn hdf4_choose(
 }
 
 fn edit_answer(edited: Edited) -> EditAnswer
-    ensures { Tells edited_numbers edited (editAnswer result) }
+    ensures { Tells edited_numbers edited (edit_answer result) }
 {
     match edited {
         Edited::Granted(length) => EditAnswer {

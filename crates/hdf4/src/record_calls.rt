@@ -16,7 +16,7 @@ use records::{Packed, array, dimension, number_type};
 
 // A number type.
 #[repr(C)]
-#[derive(Drop)]
+#[derive(Clone, Copy)]
 pub struct NumberTypeAnswer {
     pub number: u64,
     pub place: u64,
@@ -32,7 +32,7 @@ pub struct NumberTypeAnswer {
 
 // A dimension.
 #[repr(C)]
-#[derive(Drop)]
+#[derive(Clone, Copy)]
 pub struct DimensionAnswer {
     pub number: u64,
     pub place: u64,
@@ -56,7 +56,7 @@ pub struct DimensionAnswer {
 
 // An array; its lists are in the tables.
 #[repr(C)]
-#[derive(Drop)]
+#[derive(Clone, Copy)]
 pub struct ArrayAnswer {
     pub number: u64,
     pub place: u64,
@@ -66,7 +66,7 @@ pub struct ArrayAnswer {
 
 // What was packed.
 #[repr(C)]
-#[derive(Drop)]
+#[derive(Clone, Copy)]
 pub struct PackAnswer {
     pub number: u64,
     pub place: u64,
@@ -135,7 +135,7 @@ pub extern "C" fn hdf4_pack_number_type(
     out: &mut [u8],
 ) -> PackAnswer
     ensures { Packs 0 (number_type_bytes (record { version = version; code = code; width = width; class = class }))
-        out.old out.new (packAnswer result) }
+        out.old out.new (pack_answer result) }
 {
     let x = NumberType {
         version,
@@ -194,7 +194,7 @@ pub extern "C" fn hdf4_pack_dimension(
     out: &mut [u8],
 ) -> PackAnswer
     ensures { let d = dimension_from x y type_tag type_ref elements interlace compression_tag compression_ref in
-        Packs (dimensionPackFault d) (dimensionBytes d) out.old out.new (packAnswer result) }
+        Packs (dimension_pack_fault d) (dimension_bytes d) out.old out.new (pack_answer result) }
 {
     let d = Dimension {
         x,
@@ -218,8 +218,8 @@ pub extern "C" fn hdf4_read_array(
     pairs: &mut [u16],
 ) -> ArrayAnswer
     ensures { let s = image.now in
-        ReadsArray (array_of s reference (length sizes.old) (length pairs.old)) (recordBytes s (find s array-tag reference))
-        sizes.old sizes.new pairs.old pairs.new (arrayAnswer result) }
+        ReadsArray (array_of s reference (length sizes.old) (length pairs.old)) (record_bytes s (find s array_tag reference))
+        sizes.old sizes.new pairs.old pairs.new (array_answer result) }
 {
     let answered = array::read(image, reference, sizes, pairs);
     match answered {

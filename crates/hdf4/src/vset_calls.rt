@@ -27,7 +27,7 @@ use vset::tail::Ending;
 
 // A Vgroup; its members are in the table.
 #[repr(C)]
-#[derive(Drop)]
+#[derive(Clone, Copy)]
 pub struct GroupAnswer {
     pub number: u64,
     pub place: u64,
@@ -53,7 +53,7 @@ pub struct GroupAnswer {
 
 // The head of a Vdata; its fields are in the tables.
 #[repr(C)]
-#[derive(Drop)]
+#[derive(Clone, Copy)]
 pub struct VdataAnswer {
     pub number: u64,
     pub place: u64,
@@ -85,7 +85,7 @@ pub struct VdataAnswer {
 
 // A value of a Vdata.
 #[repr(C)]
-#[derive(Drop)]
+#[derive(Clone, Copy)]
 pub struct ValueAnswer {
     pub number: u64,
     pub place: u64,
@@ -97,7 +97,7 @@ pub struct ValueAnswer {
 
 // What was read of a column of a Vdata.
 #[repr(C)]
-#[derive(Drop)]
+#[derive(Clone, Copy)]
 pub struct ColumnAnswer {
     pub number: u64,
     pub place: u64,
@@ -109,7 +109,7 @@ pub struct ColumnAnswer {
 
 // C: hdf4_group_list_answer. What was listed of a Vgroup.
 #[repr(C)]
-#[derive(Drop)]
+#[derive(Clone, Copy)]
 pub struct PairsAnswer {
     pub number: u64,
     pub place: u64,
@@ -121,8 +121,8 @@ pub struct PairsAnswer {
 #[unsafe(no_mangle)]
 pub extern "C" fn hdf4_read_group(image: &[u8], reference: u16, members: &mut [u16]) -> GroupAnswer
     ensures { let s = image.now in
-        Does (group_of s reference (length members.old)) (groupMembers (recordBytes s (find s group_tag reference)))
-        members.old members.new (groupAnswer result) }
+        Does (group_of s reference (length members.old)) (group_members (record_bytes s (find s group_tag reference)))
+        members.old members.new (group_answer result) }
 {
     let answered = group::read(image, reference, members);
     match answered {
@@ -168,9 +168,9 @@ pub extern "C" fn hdf4_pack_group(
     out: &mut [u8],
 ) -> PackAnswer
     ensures { let ms = members.now in let n = name.now in let k = class.now in
-        Packs (groupPackFault (length ms) (length n) (length k) version)
+        Packs (group_pack_fault (length ms) (length n) (length k) version)
         (group_bytes ms n k (ending_from extension_tag extension_ref version more))
-        out.old out.new (packAnswer result) }
+        out.old out.new (pack_answer result) }
 {
     let x = Ending {
         extension_tag,
@@ -192,8 +192,8 @@ pub extern "C" fn hdf4_read_vdata(
     names: &mut [u32],
 ) -> VdataAnswer
     ensures { let s = image.now in
-        ReadsHead (head_of s reference (length fields.old) (length names.old)) s (find s head-tag reference)
-        fields.old fields.new names.old names.new (vdataAnswer result) }
+        ReadsHead (head_of s reference (length fields.old) (length names.old)) s (find s head_tag reference)
+        fields.old fields.new names.old names.new (vdata_answer result) }
 {
     vdata_answer(head::read(image, reference, fields, names))
 }
@@ -264,9 +264,9 @@ pub extern "C" fn hdf4_pack_vdata(
     ensures { let b = start_from interlace records record_size in
         let rows = fields.now in let lengths = name_lengths.now in
         let all = names.now in let n = name.now in let k = class.now in
-        Packs (headPackFault b rows lengths (length all) (length n) (length k) version)
+        Packs (head_pack_fault b rows lengths (length all) (length n) (length k) version)
         (head_bytes b rows lengths all n k (ending_from extension_tag extension_ref version more))
-        out.old out.new (packAnswer result) }
+        out.old out.new (pack_answer result) }
 {
     let b = Start {
         interlace,
@@ -359,8 +359,8 @@ pub extern "C" fn hdf4_read_column(
     out: &mut [u64],
 ) -> ColumnAnswer
     ensures { let s = image.now in
-        Does (columnOf s reference field component (length out.old)) (columnBits s reference field component)
-        out.old out.new (columnAnswer result) }
+        Does (column_of s reference field component (length out.old)) (column_bits s reference field component)
+        out.old out.new (column_answer result) }
 {
     let answered = column::read(image, reference, field, component, out);
     match answered {
@@ -385,7 +385,7 @@ pub extern "C" fn hdf4_read_column(
 #[unsafe(no_mangle)]
 pub extern "C" fn hdf4_list_group(image: &[u8], reference: u16, list: &mut [u16]) -> PairsAnswer
     ensures { let s = image.now in let room = length list.old in
-        Does (listingOf s reference room) (pairsOf s reference room) list.old list.new (pairsAnswer result) }
+        Does (listing_of s reference room) (pairs_of s reference room) list.old list.new (pairs_answer result) }
 {
     let listed = listing::list(image, reference, list);
     match listed {

@@ -26,14 +26,14 @@ pub const SLOT: usize = 12;
 pub const LINK: usize = 4;
 
 // The forms of a trailer: the old one, and the long one, which names a desk. New ones are long.
-#[derive(Drop)]
+#[derive(Clone, Copy)]
 pub enum Form {
     Old,
     Long,
 }
 
 // What an image ends in.
-#[derive(Drop)]
+#[derive(Clone, Copy)]
 pub enum Ending {
     Nothing,
     Trailer(Form),
@@ -41,7 +41,7 @@ pub enum Ending {
 
 // The place and the number of the bytes altered, the old bytes as three numbers, the length of the image before, the place of the
 // previous trailer or 0, and the desk that made the change.
-#[derive(Drop)]
+#[derive(Clone, Copy)]
 pub struct Change {
     pub place: usize,
     pub altered: usize,

@@ -1,5 +1,7 @@
 // Edits of a file that stands at the front of a lent buffer, and their undo. Each call judges everything first and writes
 // afterwards, so that a refusal has altered nothing.
+#![tactic(auto)]
+
 mod change;
 mod write;
 
@@ -27,7 +29,7 @@ use directory::{Counts, Found, Opened};
 use write::{BLOCK_SIZE, BLOCK_SLOTS};
 
 // The length of the file that a granted call leaves.
-#[derive(Drop)]
+#[derive(Clone, Copy)]
 pub enum Edited {
     Granted(usize),
     Refused(Refusal),
@@ -147,7 +149,7 @@ fn put_block(
 }
 
 // What an edit of a tag and a reference meets in the image: a refusal, the slot, or no such slot.
-#[derive(Drop)]
+#[derive(Clone, Copy)]
 enum Target {
     Refused(Refusal),
     Present(usize),

@@ -1,4 +1,6 @@
 // Marks as the bits of 64-bit words, the lowest bit of a word first. A mark past the last word is never set.
+#![tactic(auto)]
+
 ghost use Rattle.std.specs.Prelude.{◌≡◌};
 ghost use Rattle.marks.specs.Marks.{marked, with_mark};
 

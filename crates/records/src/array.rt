@@ -17,14 +17,14 @@ use storage::element;
 use storage::element::Located;
 
 // The rank, and where the sizes and the pairs stand in the record.
-#[derive(Drop)]
+#[derive(Clone, Copy)]
 pub struct Array {
     pub rank: usize,
     pub sizes: usize,
     pub pairs: usize,
 }
 
-#[derive(Drop)]
+#[derive(Clone, Copy)]
 pub enum Answered {
     Rank(usize),
     Refused(Refusal),
@@ -65,8 +65,8 @@ pub fn read_in(
     pairs: &mut [u16],
 ) -> Answered
     ensures { let s = image.now in let found = find_in s blocks Limits.array_tag reference in
-        Arrays.ReadsArray (Arrays.array_at s found (length sizes.old) (length pairs.old)) (recordBytes s found)
-        sizes.old sizes.new pairs.old pairs.new (Arrays.arrayNumbers result) }
+        Arrays.ReadsArray (Arrays.array_at s found (length sizes.old) (length pairs.old)) (record_bytes s found)
+        sizes.old sizes.new pairs.old pairs.new (Arrays.array_numbers result) }
 {
     let located = element::locate(image, blocks, ARRAY_TAG, reference);
     let Located::Plain {
@@ -109,7 +109,7 @@ pub fn read(image: &[u8], reference: u16, sizes: &mut [u32], pairs: &mut [u16]) 
     ensures { let s = image.now in
         Arrays.ReadsArray (Arrays.array_of s reference (length sizes.old) (length pairs.old))
         (record_bytes s (find s Limits.array_tag reference))
-        sizes.old sizes.new pairs.old pairs.new (Arrays.arrayNumbers result) }
+        sizes.old sizes.new pairs.old pairs.new (Arrays.array_numbers result) }
 {
     let opened = directory::open(image);
     let Opened::Accepted(counts) = opened else {

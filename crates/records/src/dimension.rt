@@ -14,7 +14,7 @@ use directory::Opened;
 use storage::element;
 use storage::element::Located;
 
-#[derive(Drop)]
+#[derive(Clone, Copy)]
 pub struct Dimension {
     pub x: u32,
     pub y: u32,
@@ -26,7 +26,7 @@ pub struct Dimension {
     pub compression_ref: u16,
 }
 
-#[derive(Drop)]
+#[derive(Clone, Copy)]
 pub enum Answered {
     Values(Dimension),
     Refused(Refusal),

@@ -1,5 +1,7 @@
 // Records in plain storage: number types, dimensions and arrays, each read from its element's part of the image and packed; and the types of
 // numbers that fields and arrays have.
+#![tactic(auto)]
+
 pub mod array;
 pub mod dimension;
 pub mod format;
@@ -10,7 +12,7 @@ pub mod scalar;
 use answer::Refusal;
 
 // How many bytes were packed.
-#[derive(Drop)]
+#[derive(Clone, Copy)]
 pub enum Packed {
     Bytes(usize),
     Refused(Refusal),

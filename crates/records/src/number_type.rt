@@ -14,7 +14,7 @@ use directory::Opened;
 use storage::element;
 use storage::element::Located;
 
-#[derive(Drop)]
+#[derive(Clone, Copy)]
 pub struct NumberType {
     pub version: u8,
     pub code: u8,
@@ -22,7 +22,7 @@ pub struct NumberType {
     pub class: u8,
 }
 
-#[derive(Drop)]
+#[derive(Clone, Copy)]
 pub enum Answered {
     Values(NumberType),
     Refused(Refusal),

@@ -8,7 +8,7 @@ use answer::Refusal;
 use directory::Opened;
 
 // Where the part stands in the current image or in the fallback.
-#[derive(Drop)]
+#[derive(Clone, Copy)]
 pub enum Chosen {
     Current { offset: usize, length: usize },
     Fallback { offset: usize, length: usize },

@@ -15,7 +15,7 @@ use answer::{Carrying, Refusal};
 use directory::Opened;
 
 // How many bytes were copied; a refusal carries the index of the table or block that is broken, 0 where it is none.
-#[derive(Drop)]
+#[derive(Clone, Copy)]
 pub enum Copied {
     Bytes(usize),
     Refused(Carrying),
@@ -36,7 +36,7 @@ fn refused(r: Refusal) -> Copied
 fn copy_blocks(image: &[u8], blocks: usize, p: usize, out: &mut [u8]) -> Copied
     requires { Opens image.now blocks × (p ≤ most_place) × IsStored image.now p }
     ensures { let x = in_blocks image.now (content_at image.now p) in
-        Does (copy_at (length out.old) p x) x.bytes out.old out.new (copiedNumbers result) }
+        Does (copy_at (length out.old) p x) x.bytes out.old out.new (copied_numbers result) }
 {
     let record = element::content(image, p);
     let broken = description::record_fault(record);
@@ -69,7 +69,7 @@ fn copy_blocks(image: &[u8], blocks: usize, p: usize, out: &mut [u8]) -> Copied
 // Copies the element's bytes to the front of a lent buffer. A call that is refused writes nothing.
 pub fn copy(image: &[u8], tag: u16, reference: u16, out: &mut [u8]) -> Copied
     ensures { Does (copy_of image.now tag reference (length out.old)) (element_bytes image.now tag reference)
-        out.old out.new (copiedNumbers result) }
+        out.old out.new (copied_numbers result) }
 {
     let opened = directory::open(image);
     let Opened::Accepted(counts) = opened else {

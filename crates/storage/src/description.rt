@@ -7,7 +7,7 @@ use answer::refusals::{CHAIN, STORAGE};
 
 // What both layouts are read into: how many bytes the element has, its first block and each later one, how many blocks a table has, the
 // reference of the first table, and whether blocks may never have been written.
-#[derive(Drop)]
+#[derive(Clone, Copy)]
 pub struct Description {
     pub length: usize,
     pub first: usize,

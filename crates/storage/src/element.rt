@@ -17,7 +17,7 @@ use directory::format::{ALL_ONES, EXTENDED_FIRST, EXTENDED_LAST, LONE};
 
 // Nothing; an element that is named and not stored yet, with the place of its slot; one in plain storage, with its slot and where its bytes
 // stand; or one in extended storage, with its slot.
-#[derive(Drop)]
+#[derive(Clone, Copy)]
 pub enum Element {
     Absent,
     NotStored(usize),
@@ -30,7 +30,7 @@ pub enum Element {
 }
 
 // An element in plain storage, or why a call that reads no other refuses it.
-#[derive(Drop)]
+#[derive(Clone, Copy)]
 pub enum Located {
     Plain {
         slot: usize,

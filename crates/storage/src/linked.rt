@@ -22,7 +22,7 @@ const MARKS: usize = 251;
 
 // What a walk came to: how many bytes are left to copy, the number of the first fault, 0 where there is none, and the index of the table or
 // block that has it.
-#[derive(Drop)]
+#[derive(Clone, Copy)]
 pub struct Walked {
     pub left: usize,
     pub fault: usize,
@@ -37,7 +37,7 @@ fn stopped(left: usize, fault: usize, index: usize) -> Walked
 }
 
 // A table or a block: the number of the first rule that it breaks, 0 where it breaks none, and where its bytes stand.
-#[derive(Drop)]
+#[derive(Clone, Copy)]
 pub struct Link {
     pub fault: usize,
     pub offset: usize,

@@ -12,7 +12,7 @@ use answer::Refusal;
 use answer::refusals::{ABSENT, NOT_STORED};
 use directory::Opened;
 
-#[derive(Drop)]
+#[derive(Clone, Copy)]
 pub enum Sized {
     Bytes(usize),
     Refused(Refusal),

@@ -8,7 +8,7 @@ use answer::Refusal;
 use directory::Opened;
 
 // Where the part of the image that is the element's stands.
-#[derive(Drop)]
+#[derive(Clone, Copy)]
 pub enum Viewed {
     Part { offset: usize, length: usize },
     Refused(Refusal),

@@ -30,7 +30,7 @@ use vhead::head::Head;
 use wire::ByteOrder;
 
 // The kind of the values, and how many records there are.
-#[derive(Drop)]
+#[derive(Clone, Copy)]
 pub enum Answered {
     Column { kind: u64, records: usize },
     Refused(Refusal),
@@ -170,8 +170,8 @@ fn read_after(
 ) -> Answered
     requires { Heads.head_fault part.now ≡ 0 }
     ensures { let s = image.now in let e = part.now in let values = find_in s blocks values_tag reference in
-        Does (Columns.columnAfter s e values field component (length out.old)) (Columns.columnIn e (recordBytes s values) field component)
-        out.old out.new (Columns.columnNumbers result) }
+        Does (Columns.column_after s e values field component (length out.old)) (Columns.column_in e (record_bytes s values) field component)
+        out.old out.new (Columns.column_numbers result) }
 {
     let h = head::parse(part);
     let number = field_fault(h, part, field, component);
@@ -222,10 +222,10 @@ pub fn read_in(
     out: &mut [u64],
 ) -> Answered
     ensures { let s = image.now in
-        let head = findIn s blocks head-tag reference in let values = findIn s blocks values-tag reference in
-        Does (Columns.columnFound s head values field component (length out.old))
+        let head = find_in s blocks head_tag reference in let values = find_in s blocks values_tag reference in
+        Does (Columns.column_found s head values field component (length out.old))
         (Columns.column_in (record_bytes s head) (record_bytes s values) field component)
-        out.old out.new (Columns.columnNumbers result) }
+        out.old out.new (Columns.column_numbers result) }
 {
     let located = element::locate(image, blocks, HEAD_TAG, reference);
     let Located::Plain {
@@ -258,8 +258,8 @@ pub fn read_in(
 // The same in an image that is opened first.
 pub fn read(image: &[u8], reference: u16, field: u64, component: u64, out: &mut [u64]) -> Answered
     ensures { let s = image.now in
-        Does (Columns.columnOf s reference field component (length out.old)) (Columns.columnBits s reference field component)
-        out.old out.new (Columns.columnNumbers result) }
+        Does (Columns.column_of s reference field component (length out.old)) (Columns.column_bits s reference field component)
+        out.old out.new (Columns.column_numbers result) }
 {
     let opened = directory::open(image);
     let Opened::Accepted(counts) = opened else {

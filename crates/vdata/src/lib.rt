@@ -1,4 +1,6 @@
 // The values of Vdatas.
+#![tactic(auto)]
+
 pub mod column;
 pub mod format;
 mod inside;

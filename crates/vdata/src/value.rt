@@ -24,7 +24,7 @@ use vhead::head;
 use vhead::head::Head;
 
 // A value. A float is made from the element's bits; the pattern of a NaN is kept as a number.
-#[derive(Drop)]
+#[derive(Clone, Copy)]
 pub enum Value {
     Signed(i64),
     Unsigned(u64),
@@ -34,7 +34,7 @@ pub enum Value {
     Nan64(u64),
 }
 
-#[derive(Drop)]
+#[derive(Clone, Copy)]
 pub enum Answered {
     Value(Value),
     Refused(Refusal),
@@ -155,7 +155,7 @@ fn read_after(
     component: usize,
 ) -> Answered
     ensures { let s = image.now in let e = part.now in let values = find_in s blocks values_tag reference in
-        Values.Gives (Values.valueAfter s e values «record» field component)
+        Values.Gives (Values.value_after s e values «record» field component)
         (Values.value_in e (record_bytes s values) «record» field component) result }
 {
     let h = head::parse(part);
@@ -193,8 +193,8 @@ pub fn read_in(
     component: u64,
 ) -> Answered
     ensures { let s = image.now in
-        let head = findIn s blocks head-tag reference in let values = findIn s blocks values-tag reference in
-        Values.Gives (Values.valueFound s head values «record» field component)
+        let head = find_in s blocks head_tag reference in let values = find_in s blocks values_tag reference in
+        Values.Gives (Values.value_found s head values «record» field component)
         (Values.value_in (record_bytes s head) (record_bytes s values) «record» field component) result }
 {
     let located = element::locate(image, blocks, HEAD_TAG, reference);
@@ -228,7 +228,7 @@ pub fn read_in(
 // The same in an image that is opened first.
 pub fn read(image: &[u8], reference: u16, record: u64, field: u64, component: u64) -> Answered
     ensures { let s = image.now in
-        let head = find s head-tag reference in let values = find s values-tag reference in
+        let head = find s head_tag reference in let values = find s values_tag reference in
         Values.Gives (Values.value_of s reference «record» field component)
         (Values.value_in (record_bytes s head) (record_bytes s values) «record» field component) result }
 {

@@ -25,7 +25,7 @@ use vset::tail;
 use vset::tail::{Ending, Tail};
 
 // How many members, where their tags and references stand in the record, and the fields after them.
-#[derive(Drop)]
+#[derive(Clone, Copy)]
 pub struct Group {
     pub members: usize,
     pub tags: usize,
@@ -34,7 +34,7 @@ pub struct Group {
 }
 
 // A group, and where its record starts in the image.
-#[derive(Drop)]
+#[derive(Clone, Copy)]
 pub enum Answered {
     Values { start: usize, group: Group },
     Refused(Refusal),
@@ -107,8 +107,8 @@ pub fn find(image: &[u8], blocks: usize, reference: u16) -> Located
 // Reads the group of a reference in a chain of so many blocks: its numbers, and tag and reference of each member to a lent list.
 pub fn read_in(image: &[u8], blocks: usize, reference: u16, members: &mut [u16]) -> Answered
     ensures answer { let s = image.now in let found = find_in s blocks Limits.group_tag reference in
-        Does (Groups.groupAt s found (length members.old)) (Groups.groupMembers (recordBytes s found))
-        members.old members.new (Groups.groupNumbers result) }
+        Does (Groups.group_at s found (length members.old)) (Groups.group_members (record_bytes s found))
+        members.old members.new (Groups.group_numbers result) }
     ensures held { let s = image.now in Steps.Held s (find_in s blocks Limits.group_tag reference) result }
 {
     let located = find(image, blocks, reference);
@@ -138,8 +138,8 @@ pub fn read_in(image: &[u8], blocks: usize, reference: u16, members: &mut [u16])
 // The same in an image that is opened first.
 pub fn read(image: &[u8], reference: u16, members: &mut [u16]) -> Answered
     ensures answer { let s = image.now in
-        Does (Groups.group_of s reference (length members.old)) (Groups.groupMembers (recordBytes s (find s Limits.group_tag reference)))
-        members.old members.new (Groups.groupNumbers result) }
+        Does (Groups.group_of s reference (length members.old)) (Groups.group_members (record_bytes s (find s Limits.group_tag reference)))
+        members.old members.new (Groups.group_numbers result) }
     ensures held { let s = image.now in Steps.Held s (find s Limits.group_tag reference) result }
 {
     let opened = directory::open(image);
@@ -165,8 +165,8 @@ fn pack_fault(members: usize, name: usize, class: usize, version: usize) -> usiz
 // Packs a group into the front of a lent buffer. Members are tag and reference of each.
 pub fn pack(members: &[u16], name: &[u8], class: &[u8], x: Ending, out: &mut [u8]) -> Packed
     ensures { let ms = members.now in let n = name.now in let k = class.now in
-        Packs (Groups.groupPackFault (length ms) (length n) (length k) x.version) (Groups.groupBytes ms n k x)
-        out.old out.new (packedNumbers result) }
+        Packs (Groups.group_pack_fault (length ms) (length n) (length k) x.version) (Groups.group_bytes ms n k x)
+        out.old out.new (packed_numbers result) }
 {
     let number = pack_fault(members.len(), name.len(), class.len(), x.version as usize);
     if number != 0 {

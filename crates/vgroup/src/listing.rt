@@ -15,14 +15,14 @@ use storage::element;
 use storage::element::Located;
 
 // How many pairs were listed.
-#[derive(Drop)]
+#[derive(Clone, Copy)]
 pub enum Listed {
     Pairs(usize),
     Refused(Refusal),
 }
 
 // How many pairs were listed up to the first refusal, and that refusal; its number is 0 where there is none.
-#[derive(Drop)]
+#[derive(Clone, Copy)]
 pub struct Walked {
     pub pairs: usize,
     pub number: usize,
@@ -159,8 +159,8 @@ fn nested(
 // Lists the members of the group of a reference, and those of the groups among them, to a lent table. All is judged first.
 pub fn list(image: &[u8], reference: u16, table: &mut [u16]) -> Listed
     ensures { let s = image.now in let room = length table.old in
-        Does (Listings.listingOf s reference room) (Listings.pairsOf s reference room)
-        table.old table.new (Listings.pairsNumbers result) }
+        Does (Listings.listing_of s reference room) (Listings.pairs_of s reference room)
+        table.old table.new (Listings.pairs_numbers result) }
 {
     let opened = directory::open(image);
     let Opened::Accepted(counts) = opened else {

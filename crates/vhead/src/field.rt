@@ -1,5 +1,5 @@
 // The four numbers of a Vdata field.
-#[derive(Drop)]
+#[derive(Clone, Copy)]
 pub struct Numbers {
     pub code: usize,
     pub size: usize,

@@ -25,7 +25,7 @@ use vset::tail;
 use vset::tail::{Ending, Tail};
 
 // The numbers of a head, where its lists of types, sizes, offsets, orders and names stand in the record, and the fields after them.
-#[derive(Drop)]
+#[derive(Clone, Copy)]
 pub struct Head {
     pub interlace: usize,
     pub records: usize,
@@ -40,7 +40,7 @@ pub struct Head {
 }
 
 // The numbers that a head starts with.
-#[derive(Drop)]
+#[derive(Clone, Copy)]
 pub struct Start {
     pub interlace: u16,
     pub records: u32,
@@ -48,7 +48,7 @@ pub struct Start {
 }
 
 // A field: its numbers, and where its name stands in the record and how long it is.
-#[derive(Drop)]
+#[derive(Clone, Copy)]
 pub struct NamedField {
     pub numbers: Numbers,
     pub name: usize,
@@ -56,7 +56,7 @@ pub struct NamedField {
 }
 
 // A head, where its record starts in the image, and how many bytes that has.
-#[derive(Drop)]
+#[derive(Clone, Copy)]
 pub enum Answered {
     Values {
         start: usize,
@@ -68,7 +68,7 @@ pub enum Answered {
 
 // What was found in the fields judged so far: whether every order is at least 1, every type known, every size and offset right; and the
 // sum of the sizes.
-#[derive(Drop)]
+#[derive(Clone, Copy)]
 pub struct Judged {
     pub orders: bool,
     pub types: bool,
@@ -320,8 +320,8 @@ pub fn read_in(
 ) -> Answered
     ensures answer { let s = image.now in let found = find_in s blocks Limits.head_tag reference in
         let room = min (length fields.old / 4) (length names.old / 2) in
-        Heads.ReadsHead (Heads.unlessLong 12 s (Heads.headAt s found room)) s found
-        fields.old fields.new names.old names.new (Heads.headNumbers result) }
+        Heads.ReadsHead (Heads.unless_long 12 s (Heads.head_at s found room)) s found
+        fields.old fields.new names.old names.new (Heads.head_numbers result) }
     ensures held { let s = image.now in Steps.Held s (find_in s blocks Limits.head_tag reference)
         (min (length fields.old / 4) (length names.old / 2)) result }
 {
@@ -339,8 +339,8 @@ pub fn read_in(
 // The same in an image that is opened first.
 pub fn read(image: &[u8], reference: u16, fields: &mut [u16], names: &mut [u32]) -> Answered
     ensures answer { let s = image.now in
-        Heads.ReadsHead (Heads.head_of s reference (length fields.old) (length names.old)) s (find s Limits.head-tag reference)
-        fields.old fields.new names.old names.new (Heads.headNumbers result) }
+        Heads.ReadsHead (Heads.head_of s reference (length fields.old) (length names.old)) s (find s Limits.head_tag reference)
+        fields.old fields.new names.old names.new (Heads.head_numbers result) }
     ensures held { let s = image.now in Steps.Held s (find s Limits.head_tag reference)
         (min (length fields.old / 4) (length names.old / 2)) result }
 {
@@ -481,7 +481,7 @@ pub fn pack(
 ) -> Packed
     ensures { let rows = rows.entry.now in let lengths = lengths.entry.now in let all = names.now in
         let name = name.entry.now in let class = class.entry.now in
-        Packs (Heads.headPackFault b rows lengths (length all) (length name) (length class) x.version)
+        Packs (Heads.head_pack_fault b rows lengths (length all) (length name) (length class) x.version)
         (Heads.head_bytes b rows lengths all name class x) out.old out.new (packed_numbers result) }
 {
     let number = pack_fault(

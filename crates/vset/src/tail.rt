@@ -10,7 +10,7 @@ use answer::refusals::RECORD;
 use records::format::MOST_COUNT;
 
 // Where name and class stand in the record and how long they are, the last numbers, and where the record ends.
-#[derive(Drop)]
+#[derive(Clone, Copy)]
 pub struct Tail {
     pub name: usize,
     pub name_length: usize,
@@ -24,7 +24,7 @@ pub struct Tail {
 }
 
 // The numbers after name and class.
-#[derive(Drop)]
+#[derive(Clone, Copy)]
 pub struct Ending {
     pub extension_tag: u16,
     pub extension_ref: u16,

@@ -1,13 +1,15 @@
 // Numbers in bytes: the only way in this library to read or write one. Most significant byte first, but where a byte order is named.
 //
 // Every function answers on all inputs. A byte past the end reads as 0, and what would be written past the end is dropped.
+#![tactic(auto)]
+
 ghost use Rattle.std.specs.Prelude.{◌≡◌, ◌+◌, ◌<◌, min, replicate};
 ghost use Rattle.wire.specs.Numbers as Numbers;
 ghost use Rattle.wire.specs.Numbers.{bytes, put, low_at, high_at, ReadsIn, Reads};
 ghost use Rattle.wire.specs.declared.ByteOrder.TheVariants.{LittleEndian};
 
 // Which byte of a number stands first: its most significant one, or its least.
-#[derive(Drop)]
+#[derive(Clone, Copy)]
 pub enum ByteOrder {
     BigEndian,
     LittleEndian,

@@ -1,0 +1,33 @@
+-- `directory::doubts::find` meets its contract. The invariant: the windows so far are noted, if they are marked. Assumes nothing.
+use native.Mathlib.Omega.{arith}
+use mathlib.Core.Path.{refl, sym, ◌∙◌}
+use mathlib.Core.Logic.{⊎_elim}
+use Rattle.directory.proofs.Doubting
+use Rattle.directory.proofs.doubts.find.Goals as goal
+
+pub suspect-requires : goal.suspect-requires
+suspect-requires c = (c.requires.0, refl)
+
+pub loop-window-init : goal.loop-window-init
+loop-window-init c = Doubting.noticed_start _ _ _ _ c.requires.1
+
+pub note-requires : goal.note-requires
+note-requires c = (c.requires.0, c.loop-window.invariant.wide)
+
+pub overflow_add-window : goal.overflow_add-window
+overflow_add-window c = omega (arith, c.loop-window-test.true)
+
+pub loop-window-smaller : goal.loop-window-smaller
+loop-window-smaller c = omega (arith, c.loop-window-test.true)
+
+pub loop-window-preserved : goal.loop-window-preserved
+loop-window-preserved c =
+    let inv = c.loop-window.invariant in
+    let is = c.is_set.ensures in
+    ⊎_elim
+    (λ w. rw w.3 (Doubting.noticed_next _ _ _ _ _ inv _ w.2.ensures))
+    (λ w. rw w.1 (Doubting.noticed_skip _ _ _ _ _ inv (sym is ∙ w.0.left)))
+    c.if-is_set.branch
+
+pub returns : goal.returns
+returns c = Doubting.noticed_all _ _ _ _ _ c.loop-window.invariant c.loop-window-test.false c.suspect.ensures

@@ -1,0 +1,90 @@
+-- `directory::slot::directory_fault` meets its contract. The invariant: what is still to be followed decides, and the blocks followed leave
+-- the gap free. Assumes nothing.
+use Prim.Native.Nat.{◌-◌, ◌≤◌}
+use native.Mathlib.Omega.{arith}
+use mathlib.Core.Path.{◌≡◌, sym, ap, ◌∙◌}
+use mathlib.Core.Logic.{⊎_elim}
+use mathlib.Core.Bool.{not}
+use lib.ListN.{length}
+use Rattle.directory.specs.Blocks.{block_end}
+use Rattle.answer.proofs.Search
+use Rattle.directory.proofs.Links
+use Rattle.directory.proofs.Blocks
+use Rattle.directory.proofs.Gaps
+use Rattle.directory.proofs.slot.directory_fault.Goals as goal
+use Rattle.directory.proofs.slot.directory_fault.Goals.{In-loop-left}
+
+-- the block at hand lies inside the image
+block_inside : (c : In-loop-left) → let a = c.args in block_end a.image.now c.loop-left.b ≤ length a.image.now
+block_inside c = Gaps.searched_inside _ _ c.requires.0 _ _ _ _ _ c.loop-left.invariant c.loop-left-test.true
+
+pub returns-then-holds : goal.returns-then-holds
+returns-then-holds c =
+    let p = c.requires in
+    let lies = c.holds.ensures c.if-holds.true in
+    (sym (Search.must_holds _ _ _ (ap not (Gaps.between_off _ _ _ p.2.between _ _ lies.0 lies.1))), p.2)
+
+pub returns-then-a-lt4 : goal.returns-then-a-lt4
+returns-then-a-lt4 c =
+    let p = c.requires in
+    (sym (Search.must_fails _ _ _ (ap not (Blocks.meets_header _ _ _ _ c.if-a-lt4.true p.3))), p.2)
+
+pub loop-left-init : goal.loop-left-init
+loop-left-init c =
+    let p = c.requires in
+    let is = c.from_block-around.ensures in
+    Gaps.search_start _ _ _ _ _ _ _ _ p.0 p.1 p.2 (omega (arith, c.if-a-lt4.false)) c.start-start.ensures (ap (λ g. g.low) is) (ap (λ g. g.block) is) (ap (λ g. g.left) is)
+
+pub overflow_add-end : goal.overflow_add-end
+overflow_add-end c = omega (arith, c.loop-left.invariant.follows.low)
+
+pub read16-requires : goal.read16-requires
+read16-requires c = omega (arith, block_inside (goal.at.read16-requires c).In-loop-left)
+
+pub overflow_add-end-then-b-e : goal.overflow_add-end-then-b-e
+overflow_add-end-then-b-e c = omega (arith, c.loop-left.invariant.follows.low)
+
+pub returns-then-a-end : goal.returns-then-a-end
+returns-then-a-end c =
+    let met = Links.follow_hit _ _ _ _ _ c.loop-left.invariant.follows c.loop-left-test.true (Blocks.meets_block_lem _ _ _ _ (rw c.read16.ensures.is at c.if-a-end.true) c.if-b-e.true) in
+    (sym (Search.must_fails _ _ _ (ap not (Blocks.past_header _ _ _ _ c.if-a-lt4.false ∙ met))), c.requires.2)
+
+pub overflow_add-b : goal.overflow_add-b
+overflow_add-b c = omega (arith, c.loop-left.invariant.follows.low)
+
+pub read32-b-requires : goal.read32-b-requires
+read32-b-requires c = omega (arith, block_inside (goal.at.read32-b-requires c).In-loop-left)
+
+pub loop-left-smaller : goal.loop-left-smaller
+loop-left-smaller c =
+    let more = c.loop-left-test.true in
+    ⊎_elim
+    (λ w. omega (arith, w.5))
+    (λ w. ⊎_elim (λ e. omega (arith, w.4, e)) (λ e. omega (arith, w.4, e.0)) w.2.ensures)
+    c.if-b-e.branch
+
+pub loop-left-preserved : goal.loop-left-preserved
+loop-left-preserved c =
+    let inv = c.loop-left.invariant in
+    let more = c.loop-left-test.true in
+    let r = c.read32-b.ensures in
+    let small = rw r.is at r.small in
+    ⊎_elim
+    (λ w.
+    let g = w.3.ensures in
+    let past = rw w.1.ensures.is at g.1 in
+    rw (r.is, w.4, w.5)
+    (Gaps.search_next _ _ _ _ _ _ _ inv more small _ g.0 (omega (arith, g.2)) (rw (g.3, g.4) (Gaps.here_block _ _ _ _ _ _ _ inv more))
+    (Blocks.past_block _ _ _ _ (rw w.1.ensures.is at w.2.left)) (λ h. absurd (omega (arith, past)))))
+    (λ w.
+    let g = w.1.ensures in
+    ⊎_elim
+    (λ e. let n : c.if-b-e.left ≡ c.loop-left.left - 1 = w.4 ∙ e in rw (r.is, w.3, n) (Gaps.search_next _ _ _ _ _ _ _ inv more small _ (omega (arith, g.0)) g.2 (rw (g.3, g.4) inv.block) (Blocks.before_block _ _ _ _ w.0.left) (λ h. g.1)))
+    (λ e. let n : c.if-b-e.left ≡ 0 = w.4 ∙ e.0 in rw (r.is, w.3, n) (Gaps.search_stop _ _ _ _ _ _ _ inv more small _ (omega (arith, g.0)) g.2 (rw (g.3, g.4) inv.block) (c.requires.0.rises e.1) w.0.left g.1))
+    w.2.ensures)
+    c.if-b-e.branch
+
+pub returns : goal.returns
+returns c =
+    let met = Links.follow_end _ _ _ _ _ c.loop-left.invariant.follows c.loop-left-test.false in
+    (sym (Search.must_holds _ _ _ (ap not (Blocks.past_header _ _ _ _ c.if-a-lt4.false ∙ met))), Gaps.search_gap _ _ _ _ _ _ _ c.loop-left.invariant c.loop-left-test.false)

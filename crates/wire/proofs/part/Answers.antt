@@ -1,0 +1,6 @@
+-- `wire::part` meets its contract. Assumes nothing.
+use Rattle.wire.proofs.Numbers
+use Rattle.wire.proofs.part.Goals as goal
+
+pub returns : goal.returns
+returns c = Numbers.part_clipped _ _ _ _ _ c.least-start.ensures c.least.ensures
