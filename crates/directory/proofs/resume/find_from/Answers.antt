@@ -32,8 +32,7 @@ pub loop-at-smaller-then-at-gt0 : goal.loop-at-smaller-then-at-gt0
 loop-at-smaller-then-at-gt0 c = Resuming.steps_later _ _ c.args.tag c.args.reference _ c.if-at-gt0.true _ c.advanced-at.ensures _
 
 pub loop-at-preserved-then-at-gt0 : goal.loop-at-preserved-then-at-gt0
-loop-at-preserved-then-at-gt0 c =
-    (
+loop-at-preserved-then-at-gt0 c = (
   Cursors.stands_self _ _ _ c.advanced-at.ensures,
   c.loop-at.invariant.1 ∙ Resuming.rest_later _ _ _ _ _ c.if-at-gt0.true _ c.advanced-at.ensures _ (sym c.matches.ensures ∙ c.if-matches.false),
 )
