@@ -20,67 +20,44 @@ use Rattle.directory.proofs.Earlier
 use Rattle.directory.proofs.Keys
 use Rattle.directory.proofs.Checking
 use Rattle.directory.proofs.check_block.Goals as goal
-
--- what holds before each slot
-pub record Passing (image : List ℕ) (blocks before count live : ℕ) (gap : Gap) (i : ℕ) : Type 0 where
-  pub upto : i ≤ count
-  pub going : Checking.Going image blocks before i live
-  pub placed : Placed image blocks gap
+use Rattle.directory.proofs.check_block.Goals.{then-read16-ne-FREE+else-judged-ne0+else-is_among+else-loop-left-test, else-read16-ne-FREE, Else-i-count, Then-read16-ne-FREE, Else-judged-ne0, After-of-key, In-loop-left, After-is_among-in-loop-left}
 
 -- the slot at hand
-module _ (c : tie.Else1 invariant_loop decreases_loop invariant_slots decreases_slots) where
-  place : let a = c.before.before.before.before.before.before.args in let l = c.before.slots in a.b + 6 + 12 * l.i ≡ slot_at a.image.now a.before l.i
-  place = Earlier.slot_place _ _ _ c.before.before.before.before.before.before.requires.1.at _
+place : (c : Else-i-count) → let a = c.args in a.b + 6 + 12 * c.slots.i ≡ slot_at a.image.now a.before c.slots.i
+place c = Earlier.slot_place _ _ _ c.requires.1.at _
 
-  counted : let a = c.before.before.before.before.before.before.args in c.before.before.before.read16.result ≡ slot_count a.image.now (block_after a.image.now a.before 4)
-  counted = c.before.before.before.read16.ensures.is ∙ ap (slot_count _) (sym c.before.before.before.before.before.before.requires.1.at)
+counted : (c : Else-i-count) → let a = c.args in c.read16-count.result ≡ slot_count a.image.now (block_after a.image.now a.before 4)
+counted c = c.read16-count.ensures.is ∙ ap (slot_count _) (sym c.requires.1.at)
 
-  more : let a = c.before.before.before.before.before.before.args in c.before.slots.i < slot_count a.image.now (block_after a.image.now a.before 4)
-  more = omega (arith, c.before.slots.invariant.upto, c.if1.false, counted)
+more : (c : Else-i-count) → let a = c.args in c.slots.i < slot_count a.image.now (block_after a.image.now a.before 4)
+more c = omega (arith, c.slots.invariant.upto, c.if-i-count.false, counted c)
 
-  inside : let a = c.before.before.before.before.before.before.args in a.b + 6 + 12 * c.before.slots.i + 12 ≤ length a.image.now
-  inside = let whole = c.before.before.before.before.before.before.requires.1.whole in let is = c.before.before.before.read16.ensures.is in omega (arith, c.before.slots.invariant.upto, c.if1.false)
+inside : (c : Else-i-count) → let a = c.args in a.b + 6 + 12 * c.slots.i + 12 ≤ length a.image.now
+inside c =
+    let whole = c.requires.1.whole in
+    let is = c.read16-count.ensures.is in
+    omega (arith, c.slots.invariant.upto, c.if-i-count.false)
 
-alive : (c : goal.Then-read16-ne-FREE) → let a = c.args in Live a.image.now (a.b + 6 + 12 * c.slots.i)
+alive : (c : Then-read16-ne-FREE) → let a = c.args in Live a.image.now (a.b + 6 + 12 * c.slots.i)
 alive c h = c.if-read16-ne-FREE.true (c.read16.ensures.is ∙ h)
 
-element : (c : goal.Else-judged-ne0) → let a = c.args in
+element : (c : Else-judged-ne0) → let a = c.args in
     element_fault a.image.now (blocks_after a.image.now a.shape.blocks 4) (a.b + 6 + 12 * c.slots.i) 0 ≡ 0
 element c = sym c.element_fault-judged.ensures.0 ∙ c.if-judged-ne0.false
 
 -- what is known where earlier slots are searched
-module _ (c : tie.After-of invariant_loop decreases_loop invariant_slots decreases_slots) where
-  based : let a = c.before.before.before.before.before.before.before.before.before.before.before.before.before.args in Based a.image.now (a.b + 6 + 12 * c.before.before.before.before.before.before.before.before.slots.i)
-  based = Keys.based _ _ _ (alive c.before.before.before.before.before) (element c.before.before)
-
--- no slot before it in its block clashes
-own_clear : (c : goal.Else-is_among) → let a = c.args in let l = c.slots in
-    any (clash a.image.now (a.b + 6 + 12 * l.i)) (rows (block_after a.image.now a.before 4 + 6) l.i) ≡ false
-own_clear c =
-    let p = c.requires in
-    let k = c.of-key.ensures in
-    Checking.own_clear _ _ _ _ _ _ (place c.«Else-i-count») p.1.more (more c.«Else-i-count») p.3 (alive c.«Then-read16-ne-FREE») _ k _ c.to_search.ensures
-    (rw p.1.at (sym (c.is_among.ensures _ k (based c.«After-of-key»)) ∙ c.if-is_among.false))
+based : (c : After-of-key) → let a = c.args in Based a.image.now (a.b + 6 + 12 * c.slots.i)
+based c =
+    Keys.based _ _ _ (λ h. c.if-read16-ne-FREE.true (c.read16.ensures.is ∙ h)) (sym c.element_fault-judged.ensures.0 ∙ c.if-judged-ne0.false)
 
 -- an earlier block lies inside the image
-block_inside : (c : goal.In-loop-left) → let a = c.args in block_end a.image.now c.loop-left.earlier ≤ length a.image.now
+block_inside : (c : In-loop-left) → let a = c.args in block_end a.image.now c.loop-left.earlier ≤ length a.image.now
 block_inside c = let p = c.requires in Checking.search_inside _ _ _ _ _ _ _ p.0 p.1.more c.loop-left.invariant c.loop-left-test.true
 
--- no earlier slot clashes
-next_live : (c : goal.After-loop-left) → let a = c.args in let l = c.slots in
-    Passing a.image.now a.shape.blocks a.before c.read16-count.result (l.live + 1) c.element_fault-judged.result.gap (l.i + 1)
-next_live c =
-    let l = c.slots in
-    record {
-      upto = omega (arith, l.invariant.upto, c.if-i-count.false);
-      going = Checking.going_good _ _ _ _ _ l.invariant.going _ (place c.«Else-i-count») (more c.«Else-i-count») (alive c.«Then-read16-ne-FREE») (element c.«Else-judged-ne0») (Checking.search_end _ _ _ _ _ _ c.loop-left.invariant c.loop-left-test.false);
-      placed = c.element_fault-judged.ensures.1;
-    }
-
 -- whether a slot of the earlier block at hand clashes
-among : (c : goal.After-is_among-in-loop-left) → let a = c.args in let b = c.loop-left.earlier in
-    c.is_among-in-loop-left.result ≡ any (clash a.image.now (a.b + 6 + 12 * c.slots.i)) (rows (b + 6) (slot_count a.image.now b))
-among c = rw (← c.read16-in-loop-left.ensures.is) (c.is_among-in-loop-left.ensures _ c.of-key.ensures (based c.«After-of-key»))
+among : (c : After-is_among-in-loop-left) → let a = c.args in let b = c.loop-left.earlier in
+    Based a.image.now (a.b + 6 + 12 * c.slots.i) → c.is_among-in-loop-left.result ≡ any (clash a.image.now (a.b + 6 + 12 * c.slots.i)) (rows (b + 6) (slot_count a.image.now b))
+among c based = rw (← c.read16-in-loop-left.ensures.is) (c.is_among-in-loop-left.ensures _ c.of-key.ensures based)
 
 pub behind-own-requires : goal.behind-own-requires
 behind-own-requires c = (c.requires.0, c.requires.1)
@@ -112,7 +89,7 @@ pub of-key-requires : goal.of-key-requires
 of-key-requires c = omega (arith, inside (goal.at.of-key-requires c).Else-i-count)
 
 pub overflow_add-b : goal.overflow_add-b
-overflow_add-b c = add-p (goal.at.overflow_add-b c).Else-i-count
+overflow_add-b c = omega (arith, inside (goal.at.overflow_add-b c).Else-i-count)
 
 pub to_search-requires : goal.to_search-requires
 to_search-requires c = c.of-key.ensures.small
@@ -128,8 +105,13 @@ to_search-left-requires c = c.of-key.ensures.small
 
 pub loop-left-init : goal.loop-left-init
 loop-left-init c =
+    let e = (goal.at.loop-left-init c).Else-i-count in
     let p = c.requires in
-    Checking.search_start _ _ _ _ _ _ (place (goal.at.loop-left-init c).Else-i-count) p.1.more (more (goal.at.loop-left-init c).Else-i-count) p.3 (alive (goal.at.loop-left-init c).Then-read16-ne-FREE) _ c.of-key.ensures _ c.to_search-left.ensures (own_clear (goal.at.loop-left-init c).Else-is_among)
+    let k = c.of-key.ensures in
+    let lives = alive (goal.at.loop-left-init c).Then-read16-ne-FREE in
+    Checking.search_start _ _ _ _ _ _ (place e) p.1.more (more e) p.3 lives _ k _ c.to_search-left.ensures
+    (Checking.own_clear _ _ _ _ _ _ (place e) p.1.more (more e) p.3 lives _ k _ c.to_search.ensures
+    (rw p.1.at (sym (c.is_among.ensures _ k (based (goal.at.loop-left-init c).After-of-key)) ∙ c.if-is_among.false)))
 
 pub overflow_add-earlier : goal.overflow_add-earlier
 overflow_add-earlier c = omega (arith, c.loop-left.invariant.low)
@@ -157,7 +139,7 @@ loop-left-smaller c = omega (arith, c.loop-left-test.true)
 pub loop-left-preserved : goal.loop-left-preserved
 loop-left-preserved c =
     let r = c.read32-earlier.ensures in
-    rw r.is (Checking.search_next _ _ _ _ _ _ c.loop-left.invariant c.loop-left-test.true (sym (among (goal.at.loop-left-preserved c).After-is_among-in-loop-left) ∙ c.if-is_among-2.false) (rw r.is at r.small))
+    rw r.is (Checking.search_next _ _ _ _ _ _ c.loop-left.invariant c.loop-left-test.true (sym (among (goal.at.loop-left-preserved c).After-is_among-in-loop-left (based (goal.at.loop-left-preserved c).After-of-key)) ∙ c.if-is_among-2.false) (rw r.is at r.small))
 
 pub overflow_add-live : goal.overflow_add-live
 overflow_add-live c =
@@ -172,23 +154,24 @@ slots-smaller c = omega (arith, c.slots.invariant.upto, c.if-i-count.false)
 
 pub slots-preserved : goal.slots-preserved
 slots-preserved c =
+    let e = (goal.at.slots-preserved c).Else-i-count in
     let l = c.slots in
-    ⊎_elim
-    (λ w.
-    let judged : tie.Else3 invariant_loop decreases_loop invariant_slots decreases_slots =
-    record { before = record { before = record { before = record { before = (goal.at.slots-preserved c).After-read16; if2 = w.0 }; element_fault_lem = w.1 }; struct_known = w.2 }; if3 = w.3 } in
-    let keyed : tie.After-of invariant_loop decreases_loop invariant_slots decreases_slots = record { before = record { before = judged; gap2 = w.4 }; of = w.5 } in
-    let own : tie.Else4 invariant_loop decreases_loop invariant_slots decreases_slots = record { before = record { before = record { before = keyed; to_search = w.6 }; is_among = w.7 }; if4 = w.8 } in
-    let searched : tie.After-loop invariant_loop decreases_loop invariant_slots decreases_slots = record { before = record { before = record { before = own; to_search2 = w.9 }; loop = w.10 }; loop_test = w.11 } in
-    rw (w.12, w.13) (next_live searched))
-    (λ w.
-    rw (w.1, w.2)
-    (record {
-      upto = omega (arith, l.invariant.upto, c.if-i-count.false);
-      going = Checking.going_free _ _ _ _ _ l.invariant.going _ (place (goal.at.slots-preserved c).Else-i-count) (more (goal.at.slots-preserved c).Else-i-count) (sym c.read16.ensures.is ∙ w.0.left);
-      placed = l.invariant.placed;
-    }))
-    c.if-read16-ne-FREE.branch
+    elim c.if-read16-ne-FREE.branch [
+      | then-read16-ne-FREE+else-judged-ne0+else-is_among+else-loop-left-test w ↦
+          rw (w.live-is, w.gap-is)
+          (record {
+            upto = omega (arith, l.invariant.upto, c.if-i-count.false);
+            going = Checking.going_good _ _ _ _ _ l.invariant.going _ (place e) (more e) (λ h. w.if-read16-ne-FREE.true (c.read16.ensures.is ∙ h)) (sym w.element_fault-judged.ensures.0 ∙ w.if-judged-ne0.false) (Checking.search_end _ _ _ _ _ _ w.loop-left.invariant w.loop-left-test.false);
+            placed = w.element_fault-judged.ensures.1;
+          })
+      | else-read16-ne-FREE w ↦
+          rw (w.live-is, w.gap-is)
+          (record {
+            upto = omega (arith, l.invariant.upto, c.if-i-count.false);
+            going = Checking.going_free _ _ _ _ _ l.invariant.going _ (place e) (more e) (sym c.read16.ensures.is ∙ w.if-read16-ne-FREE.false);
+            placed = l.invariant.placed;
+          })
+    ]
 
 pub returns-then-i-count : goal.returns-then-i-count
 returns-then-i-count c =
@@ -218,4 +201,4 @@ pub returns-then-is_among-2 : goal.returns-then-is_among-2
 returns-then-is_among-2 c =
     Checking.checks_broken _ _ _ _ _ _ _ c.element_fault-judged.ensures.1 _ c.so_far-then-is_among-2.ensures (λ z. omega arith)
     (Checking.going_twice _ _ _ _ _ c.slots.invariant.going _ (place (goal.at.returns-then-is_among-2 c).Else-i-count) (more (goal.at.returns-then-is_among-2 c).Else-i-count) (alive (goal.at.returns-then-is_among-2 c).Then-read16-ne-FREE) (element (goal.at.returns-then-is_among-2 c).Else-judged-ne0)
-    (Checking.search_hit _ _ _ _ _ _ c.loop-left.invariant c.loop-left-test.true (sym (among (goal.at.returns-then-is_among-2 c).After-is_among-in-loop-left) ∙ c.if-is_among-2.true)))
+    (Checking.search_hit _ _ _ _ _ _ c.loop-left.invariant c.loop-left-test.true (sym (among (goal.at.returns-then-is_among-2 c).After-is_among-in-loop-left (based (goal.at.returns-then-is_among-2 c).After-of-key)) ∙ c.if-is_among-2.true)))

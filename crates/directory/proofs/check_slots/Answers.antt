@@ -15,17 +15,10 @@ use Rattle.directory.proofs.Gaps
 use Rattle.directory.proofs.Earlier
 use Rattle.directory.proofs.Checking
 use Rattle.directory.proofs.check_slots.Goals as goal
-
--- so many blocks are passed
-pub record Passing (image : List ℕ) (blocks : ℕ) (checked : Checked) (b before : ℕ) : Type 0 where
-  pub upto : before ≤ blocks
-  pub at : block_after image before 4 ≡ b
-  pub low : b < 4294967296
-  pub reached : Reached image blocks before checked.live
-  pub placed : Placed image blocks checked.gap
+use Rattle.directory.proofs.check_slots.Goals.{In-loop-before}
 
 -- the block at hand
-here : (c : goal.In-loop-before) → let a = c.args in InChain a.image.now a.shape.blocks c.loop-before.before c.loop-before.b
+here : (c : In-loop-before) → let a = c.args in InChain a.image.now a.shape.blocks c.loop-before.before c.loop-before.b
 here c = Earlier.in_chain _ _ _ _ c.requires.1 c.loop-before.invariant.at c.loop-before-test.true
 
 pub find-requires : goal.find-requires

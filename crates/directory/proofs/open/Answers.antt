@@ -1,7 +1,6 @@
 -- `directory::open` meets its contract. Assumes nothing.
 use mathlib.Core.Path.{◌≡◌, sym, subst, ◌∙◌}
 use mathlib.Core.Bool.{true}
-use borrow.Author.Tests.{not-true, not-false}
 use Rattle.directory.specs.Opening.{headed}
 use Rattle.directory.specs.Steps.Chains.{WalkedTo}
 use Rattle.directory.specs.declared.chain.Walked.TheVariants.{Whole}
@@ -9,24 +8,20 @@ use Rattle.directory.proofs.Links
 use Rattle.directory.proofs.Opening
 use Rattle.directory.proofs.Opens
 use Rattle.directory.proofs.open.Goals as goal
+use Rattle.directory.proofs.open.Goals.{Else-not-is_hdf}
 
-head : (c : goal.Else-not-is_hdf) → headed c.args.image.now ≡ true
-head c = sym c.is_hdf.ensures ∙ not-false _ c.if-not-is_hdf.false-raw
-
--- what the walk left, where the chain is whole
-whole : (c : goal.In-Whole-2) → let a = c.args in
-    WalkedTo a.image.now (Whole c.in-Whole.shape)
-whole c = subst (WalkedTo _) c.in-Whole.is c.walk-walked.ensures
+head : (c : Else-not-is_hdf) → headed c.args.image.now ≡ true
+head c = sym c.is_hdf.ensures ∙ c.if-not-is_hdf.false
 
 pub returns-then-image-gt-MOST_BYTES : goal.returns-then-image-gt-MOST_BYTES
 returns-then-image-gt-MOST_BYTES c = sym (Opening.open_long _ c.if-image-gt-MOST_BYTES.true)
 
 pub returns-then-not-is_hdf : goal.returns-then-not-is_hdf
-returns-then-not-is_hdf c = sym (Opening.open_other _ c.if-image-gt-MOST_BYTES.false (sym c.is_hdf.ensures ∙ not-true _ c.if-not-is_hdf.true-raw))
+returns-then-not-is_hdf c = sym (Opening.open_other _ c.if-image-gt-MOST_BYTES.false (sym c.is_hdf.ensures ∙ c.if-not-is_hdf.true))
 
 pub check_slots-requires : goal.check_slots-requires
 check_slots-requires c =
-    let w = whole (goal.at.check_slots-requires c).In-Whole-2 in
+    let w = subst (WalkedTo _) c.in-Whole.is c.walk-walked.ensures in
     (w.1, w.2)
 
 pub returns-in-Broken : goal.returns-in-Broken
@@ -36,5 +31,5 @@ returns-in-Broken c =
 
 pub returns-in-Whole : goal.returns-in-Whole
 returns-in-Whole c =
-    let w = whole (goal.at.returns-in-Whole c).In-Whole-2 in
+    let w = subst (WalkedTo _) c.in-Whole.is c.walk-walked.ensures in
     c.check_slots.ensures ∙ sym (Opening.open_walked _ c.if-image-gt-MOST_BYTES.false (head (goal.at.returns-in-Whole c).Else-not-is_hdf) _ w.0 ∙ rw Links.slots_along)

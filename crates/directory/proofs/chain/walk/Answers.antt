@@ -1,6 +1,6 @@
 -- `directory::chain::walk` meets its contract. The outer invariant: what is left of the chain is the chain; the inner one: what is still
 -- to be followed of the earlier blocks decides. Assumes nothing.
-use Prim.Native.Nat.{◌≤◌, ◌<◌}
+use Prim.Native.Nat.{◌+◌, ◌*◌, ◌≤◌, ◌<◌}
 use native.Mathlib.Omega.{arith}
 use mathlib.Core.Path.{◌≡◌, sym, ◌∙◌}
 use mathlib.Core.Bool.{false}
@@ -8,13 +8,13 @@ use mathlib.Core.Logic.{⊎_elim}
 use lib.Dec.{eqb}
 use lib.ListN.{length}
 use Rattle.answer.specs.Search.{any}
-use Rattle.directory.specs.Blocks.{next_block, block_end, block_fault}
+use Rattle.directory.specs.Blocks.{meets_block, next_block, block_end, block_fault}
 use Rattle.directory.specs.Links.{blocks_after}
 use Rattle.answer.proofs.Links.{length_links}
 use Rattle.directory.proofs.Links
 use Rattle.directory.proofs.Blocks
 use Rattle.directory.proofs.chain.walk.Goals as goal
-use Rattle.directory.proofs.chain.walk.Goals.{After-greater-top, After-loop-left, Else-blocks-eq-MOST_BLOCKS, Else-image-end, Else-seen_below}
+use Rattle.directory.proofs.chain.walk.Goals.{then-b-end+else-at-b, else-b-end, After-greater-top, After-loop-left, Else-blocks-eq-MOST_BLOCKS, Else-image-end, Else-seen_below}
 
 -- the block is none of the earlier ones
 fresh : (c : Else-seen_below) → any (eqb c.chain.at) (blocks_after c.args.image.now c.chain.blocks 4) ≡ false
@@ -32,7 +32,7 @@ whole c = rw c.read16-count.ensures.is at c.if-image-end.false
 clear : (c : Else-image-end) → Blocks.Clear c.args.image.now c.chain.at c.chain.blocks c.chain.slots
 clear c =
     record {
-      fresh = fresh c.«Else-seen_below»;
+      fresh = sym c.seen_below.ensures ∙ c.if-seen_below.false;
       few = omega (arith, c.chain.invariant.most, c.if-blocks-eq-MOST_BLOCKS.false);
       header = c.if-image-at.false;
       room = rw c.read16-count.ensures.is at c.if-slots-count-gt-MOST_SLOTS.false;
@@ -40,10 +40,10 @@ clear c =
     }
 
 -- no earlier block meets the one at hand
-good : (c : After-loop-left) → block_fault c.args.image.now (blocks_after c.args.image.now c.chain.blocks 4) c.chain.slots c.chain.at ≡ 0
-good c =
+good : (c : After-loop-left) → Blocks.Clear c.args.image.now c.chain.at c.chain.blocks c.chain.slots → block_fault c.args.image.now (blocks_after c.args.image.now c.chain.blocks 4) c.chain.slots c.chain.at ≡ 0
+good c k =
     let met = Links.follow_end _ _ _ _ _ c.loop-left.invariant c.loop-left-test.false in
-    Blocks.apart _ _ _ _ (clear c.«Else-image-end») (Blocks.past_header _ _ _ _ c.if-at-lt4.false ∙ rw c.read16-count.ensures.is at met)
+    Blocks.apart _ _ _ _ k (Blocks.past_header _ _ _ _ c.if-at-lt4.false ∙ rw c.read16-count.ensures.is at met)
 
 -- the greater of two ends inside the image is inside
 higher : (c : After-greater-top) → c.greater-top.result ≤ length c.args.image.now
@@ -74,7 +74,11 @@ overflow_add-b-in-loop-left c = omega (arith, c.loop-left.invariant.low)
 pub loop-left-preserved : goal.loop-left-preserved
 loop-left-preserved c =
     let r = c.read32-b.ensures in
-    let misses = ⊎_elim (λ w. Blocks.past_block _ _ _ _ (rw w.1.ensures.is at w.2.left)) (λ w. Blocks.before_block _ _ _ _ w.left) c.if-b-end.branch in
+    let misses : meets_block c.args.image.now c.chain.at (c.chain.at + 6 + 12 * c.read16-count.result) c.loop-left.b ≡ false =
+      elim c.if-b-end.branch [
+        | then-b-end+else-at-b w ↦ Blocks.past_block _ _ _ _ (rw w.read16.ensures.is at w.if-at-b.false)
+        | else-b-end w ↦ Blocks.before_block _ _ _ _ w.if-b-end.false
+      ] in
     rw r.is (Links.follow_next _ _ _ _ _ c.loop-left.invariant c.loop-left-test.true misses (rw r.is at r.small))
 
 pub chain-preserved : goal.chain-preserved
@@ -82,7 +86,7 @@ chain-preserved c =
     let k = clear (goal.at.chain-preserved c).Else-image-end in
     let is = c.read16-count.ensures.is in
     let r = c.read32-next.ensures in
-    rw (is, r.is) (Blocks.next _ _ _ _ _ _ c.chain.invariant (good (goal.at.chain-preserved c).After-loop-left) k.few _ c.greater-top.ensures.0 (omega (arith, c.greater-top.ensures.1, is)) (higher (goal.at.chain-preserved c).After-greater-top) k.room (λ e. c.if-next-eq0.false (r.is ∙ e)) (rw r.is at r.small) _ c.rises-rising.ensures)
+    rw (is, r.is) (Blocks.next _ _ _ _ _ _ c.chain.invariant (good (goal.at.chain-preserved c).After-loop-left k) k.few _ c.greater-top.ensures.0 (omega (arith, c.greater-top.ensures.1, is)) (higher (goal.at.chain-preserved c).After-greater-top) k.room (λ e. c.if-next-eq0.false (r.is ∙ e)) (rw r.is at r.small) _ c.rises-rising.ensures)
 
 pub returns-then-seen_below : goal.returns-then-seen_below
 returns-then-seen_below c = Blocks.stopped _ _ _ _ _ _ c.chain.invariant 3 (Blocks.fault_loop _ _ _ _ (sym c.seen_below.ensures ∙ c.if-seen_below.true))
@@ -117,4 +121,4 @@ returns-then-at-b c =
 pub returns-then-next-eq0 : goal.returns-then-next-eq0
 returns-then-next-eq0 c =
     let is = c.read16-count.ensures.is in
-    rw is (Blocks.last _ _ _ _ _ _ c.chain.invariant (good (goal.at.returns-then-next-eq0 c).After-loop-left) (clear (goal.at.returns-then-next-eq0 c).Else-image-end).few _ c.greater-top.ensures.0 (omega (arith, c.greater-top.ensures.1, is)) (higher (goal.at.returns-then-next-eq0 c).After-greater-top) _ c.rises-rising.ensures (sym c.read32-next.ensures.is ∙ c.if-next-eq0.true))
+    rw is (Blocks.last _ _ _ _ _ _ c.chain.invariant (good (goal.at.returns-then-next-eq0 c).After-loop-left (clear (goal.at.returns-then-next-eq0 c).Else-image-end)) (clear (goal.at.returns-then-next-eq0 c).Else-image-end).few _ c.greater-top.ensures.0 (omega (arith, c.greater-top.ensures.1, is)) (higher (goal.at.returns-then-next-eq0 c).After-greater-top) _ c.rises-rising.ensures (sym c.read32-next.ensures.is ∙ c.if-next-eq0.true))

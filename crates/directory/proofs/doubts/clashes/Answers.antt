@@ -11,22 +11,23 @@ use Rattle.directory.specs.Steps.Keys.{Based}
 use Rattle.directory.proofs.Earlier
 use Rattle.directory.proofs.Checking
 use Rattle.directory.proofs.doubts.clashes.Goals as goal
+use Rattle.directory.proofs.doubts.clashes.Goals.{After-is_among-in-loop-left, Else-key-eq-FREE, In-loop-left, Start}
 
 -- the slot lies inside the image
-inside : (c : goal.Start) → c.args.b + 6 + 12 * c.args.i + 12 ≤ length c.args.image.now
+inside : (c : Start) → c.args.b + 6 + 12 * c.args.i + 12 ≤ length c.args.image.now
 inside c = omega (arith, c.requires.1.whole, c.requires.2)
 
-based : (c : goal.Else-key-eq-FREE) → let a = c.args in Based a.image.now (a.b + 6 + 12 * a.i)
+based : (c : Else-key-eq-FREE) → let a = c.args in Based a.image.now (a.b + 6 + 12 * a.i)
 based c h = c.if-key-eq-FREE.false (c.of-key.ensures.kind ∙ h)
 
 -- an earlier block lies inside the image
-block_inside : (c : goal.In-loop-left) → let a = c.args in block_end a.image.now c.loop-left.earlier ≤ length a.image.now
+block_inside : (c : In-loop-left) → let a = c.args in block_end a.image.now c.loop-left.earlier ≤ length a.image.now
 block_inside c = let p = c.requires in Checking.search_inside _ _ _ _ _ _ _ p.0 p.1.more c.loop-left.invariant c.loop-left-test.true
 
 -- whether a slot of the earlier block at hand clashes
-among : (c : goal.After-is_among-in-loop-left) → let a = c.args in let b = c.loop-left.earlier in
+among : (c : After-is_among-in-loop-left) → let a = c.args in let b = c.loop-left.earlier in
     c.is_among-in-loop-left.result ≡ any (clash a.image.now (a.b + 6 + 12 * a.i)) (rows (b + 6) (slot_count a.image.now b))
-among c = rw (← c.read16.ensures.is) (c.is_among-in-loop-left.ensures _ c.of-key.ensures (based c.«Else-key-eq-FREE»))
+among c = rw (← c.read16.ensures.is) (c.is_among-in-loop-left.ensures _ c.of-key.ensures ((λ h. c.if-key-eq-FREE.false (c.of-key.ensures.kind ∙ h))))
 
 pub overflow_add-b : goal.overflow_add-b
 overflow_add-b c = omega (arith, inside (goal.at.overflow_add-b c).Start)
@@ -44,7 +45,7 @@ pub returns-then-key-eq-FREE : goal.returns-then-key-eq-FREE
 returns-then-key-eq-FREE c = λ e. absurd (true≢false e)
 
 pub overflow_add-b-3 : goal.overflow_add-b-3
-overflow_add-b-3 c = add-of (goal.at.overflow_add-b-3 c).After-shared_slice_known-1
+overflow_add-b-3 c = (omega (arith, inside (goal.at.overflow_add-b-3 c).Start))
 
 pub is_among-requires : goal.is_among-requires
 is_among-requires c = let k = c.of-key.ensures in (omega (arith, inside (goal.at.is_among-requires c).Start), k.low, k.small)

@@ -4,6 +4,7 @@ use mathlib.Core.Path.{refl, sym, ◌∙◌}
 use mathlib.Core.Logic.{⊎_elim}
 use Rattle.directory.proofs.Doubting
 use Rattle.directory.proofs.doubts.find.Goals as goal
+use Rattle.directory.proofs.doubts.find.Goals.{then-is_set, else-is_set}
 
 pub suspect-requires : goal.suspect-requires
 suspect-requires c = (c.requires.0, refl)
@@ -24,10 +25,10 @@ pub loop-window-preserved : goal.loop-window-preserved
 loop-window-preserved c =
     let inv = c.loop-window.invariant in
     let is = c.is_set.ensures in
-    ⊎_elim
-    (λ w. rw w.3 (Doubting.noticed_next _ _ _ _ _ inv _ w.2.ensures))
-    (λ w. rw w.1 (Doubting.noticed_skip _ _ _ _ _ inv (sym is ∙ w.0.left)))
-    c.if-is_set.branch
+    elim c.if-is_set.branch [
+      | then-is_set w ↦ rw w.doubts-is (Doubting.noticed_next _ _ _ _ _ inv _ w.note.ensures)
+      | else-is_set w ↦ rw w.doubts-is (Doubting.noticed_skip _ _ _ _ _ inv (sym is ∙ w.if-is_set.false))
+    ]
 
 pub returns : goal.returns
 returns c = Doubting.noticed_all _ _ _ _ _ c.loop-window.invariant c.loop-window-test.false c.suspect.ensures

@@ -1,20 +1,14 @@
 -- `directory::doubts::note` meets its contract. The invariant: what holds of the slots of the blocks so far. Assumes nothing.
-use Prim.Native.Nat.{ℕ, ◌≤◌}
 use native.Mathlib.Omega.{arith}
 use mathlib.Core.Path.{◌≡◌, refl, sym, ◌∙◌}
-use mathlib.Core.List.{List}
 use Rattle.directory.specs.Steps.Chains.{InChain}
 use Rattle.directory.proofs.Earlier
 use Rattle.directory.proofs.Doubting
 use Rattle.directory.proofs.doubts.note.Goals as goal
-
--- so many blocks are passed
-pub record Passing (image : List ℕ) (blocks before b : ℕ) (window : ℕ) (seen from doubts : List ℕ) : Type 0 where
-  pub upto : before ≤ blocks
-  pub kept : Doubting.Notes image before b window seen from doubts
+use Rattle.directory.proofs.doubts.note.Goals.{In-loop-before}
 
 -- the block at hand
-here : (c : goal.In-loop-before) → let a = c.args in InChain a.image.now a.shape.blocks c.loop-before.before c.loop-before.b
+here : (c : In-loop-before) → let a = c.args in InChain a.image.now a.shape.blocks c.loop-before.before c.loop-before.b
 here c = Earlier.in_chain _ _ _ _ c.requires.0 c.loop-before.invariant.kept.at c.loop-before-test.true
 
 pub loop-before-init : goal.loop-before-init

@@ -1,15 +1,8 @@
 -- `directory::doubts::note_block` meets its contract. The invariant: what holds of the slots before slot i. Assumes nothing.
-use Prim.Native.Nat.{ℕ, ◌≤◌}
 use native.Mathlib.Omega.{arith}
-use mathlib.Core.List.{List}
 use Rattle.directory.proofs.Earlier
 use Rattle.directory.proofs.Doubting
 use Rattle.directory.proofs.doubts.note_block.Goals as goal
-
--- so many slots of a block are passed
-pub record Passing (image : List ℕ) (before window : ℕ) (seen from doubts : List ℕ) (count i : ℕ) : Type 0 where
-  pub upto : i ≤ count
-  pub kept : Doubting.Noting image before i window seen from doubts
 
 pub read16-count-requires : goal.read16-count-requires
 read16-count-requires c = omega (arith, c.requires.1.whole)

@@ -6,9 +6,10 @@ use lib.ListN.{length}
 use borrow.Author.Tests.{not-true, not-false}
 use Rattle.directory.proofs.Doubting
 use Rattle.directory.proofs.doubts.note_slot.Goals as goal
+use Rattle.directory.proofs.doubts.note_slot.Goals.{Start}
 
 -- the slot lies inside the image
-inside : (c : goal.Start) → c.args.b + 6 + 12 * c.args.i + 12 ≤ length c.args.image.now
+inside : (c : Start) → c.args.b + 6 + 12 * c.args.i + 12 ≤ length c.args.image.now
 inside c = omega (arith, c.requires.1.whole, c.requires.2)
 
 pub overflow_add-p : goal.overflow_add-p

@@ -1,19 +1,14 @@
 -- `directory::doubts::suspect_block` meets its contract. The invariant: what holds of the slots before slot i. Assumes nothing.
-use Prim.Native.Nat.{ℕ, ◌+◌, ◌*◌, ◌≤◌}
+use Prim.Native.Nat.{◌+◌, ◌*◌, ◌≤◌}
 use native.Mathlib.Omega.{arith}
-use mathlib.Core.List.{List}
 use lib.ListN.{length}
 use Rattle.directory.proofs.Earlier
 use Rattle.directory.proofs.Doubting
 use Rattle.directory.proofs.doubts.suspect_block.Goals as goal
-
--- so many slots of a block are passed
-pub record Passing (image : List ℕ) (before : ℕ) (highest from windows : List ℕ) (count i : ℕ) : Type 0 where
-  pub upto : i ≤ count
-  pub kept : Doubting.Suspecting image before i highest from windows
+use Rattle.directory.proofs.doubts.suspect_block.Goals.{In-loop-i}
 
 -- the slot at hand lies inside the image
-inside : (c : goal.In-loop-i) → let a = c.args in a.b + 6 + 12 * c.loop-i.i + 12 ≤ length a.image.now
+inside : (c : In-loop-i) → let a = c.args in a.b + 6 + 12 * c.loop-i.i + 12 ≤ length a.image.now
 inside c = omega (arith, c.requires.0.whole, c.loop-i-test.true, c.read16-count.ensures.is)
 
 pub read16-count-requires : goal.read16-count-requires

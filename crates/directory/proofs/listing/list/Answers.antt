@@ -3,7 +3,7 @@ use Prim.Native.Nat.{ℕ, ◌*◌, ◌≤◌}
 use native.Mathlib.Nat.{suc-ne-zero}
 use native.Mathlib.Omega.{arith}
 use mathlib.Core.Path.{◌≡◌, sym, ap, ◌∙◌}
-use mathlib.Core.List.{List, ◌∷◌}
+use mathlib.Core.List.{List, [], ◌∷◌}
 use lib.ListN.{length, get_or}
 use Rattle.answer.specs.Answer.{grant}
 use Rattle.directory.specs.Opening.{open_of}
@@ -21,11 +21,11 @@ live_count s blocks slots live o = ap (λ a. get_or a.values 2 0) (sym o ∙ Cla
 
 pub returns-in_default : goal.returns-in_default
 unfolding list_of
-returns-in_default c = Opens.unopened_does _ _ c.«open».ensures 1 _ _ _ _ c.in_default.is _ c.refusal_of.ensures
+returns-in_default c = Opens.unopened_does _ _ c.open-opened.ensures 1 _ _ _ _ c.in_default.is _ c.refusal_of.ensures
 
 pub returns-then-table-counts : goal.returns-then-table-counts
 returns-then-table-counts c =
-    let o = Opens.accepted_is _ _ c.«open».ensures _ c.in-Accepted.is in
+    let o = Opens.accepted_is _ _ c.open-opened.ensures _ c.in-Accepted.is in
     let a = c.args in
     let n = live_count a.image.now _ _ _ o in
     let small = Descriptors.list_small a.image.now a.table.now (ap (λ x. x.number) o) (omega (arith, c.if-table-counts.true)) in
@@ -34,14 +34,14 @@ returns-then-table-counts c =
 pub put_descriptors-requires : goal.put_descriptors-requires
 unfolding live_slots
 put_descriptors-requires c =
-    let o = Opens.accepted_is _ _ c.«open».ensures _ c.in-Accepted.is in
+    let o = Opens.accepted_is _ _ c.open-opened.ensures _ c.in-Accepted.is in
     let n = live_count c.args.image.now _ _ _ o in
     rw (Opens.opened_with _ _ _ _ o).slots (omega (arith, c.if-table-counts.false))
 
 pub returns : goal.returns
 unfolding live_slots
 returns c =
-    let o = Opens.accepted_is _ _ c.«open».ensures _ c.in-Accepted.is in
+    let o = Opens.accepted_is _ _ c.open-opened.ensures _ c.in-Accepted.is in
     let a = c.args in
     let n = live_count a.image.now _ _ _ o in
     let few : 4 * length (live_slots a.image.now) ≤ length a.table.now = omega (arith, c.if-table-counts.false) in

@@ -6,6 +6,7 @@ use lib.ListN.{length}
 use Rattle.directory.proofs.Cursors
 use Rattle.directory.proofs.Descriptors
 use Rattle.directory.proofs.listing.put_descriptors.Goals as goal
+use Rattle.directory.proofs.listing.put_descriptors.Goals.{then-read16-ne-FREE, else-read16-ne-FREE}
 
 pub loop-at-init : goal.loop-at-init
 loop-at-init c =
@@ -22,7 +23,7 @@ put_descriptor-requires c =
 pub overflow_add-i : goal.overflow_add-i
 overflow_add-i c =
     let l = c.loop-at in
-    omega (arith, c.well-formed.1.1, l.invariant.long, Descriptors.entry_room _ _ _ _ _ _ l.invariant c.loop-at-test.true (λ h. c.if-read16-ne-FREE.true (c.read16.ensures.is ∙ h)))
+    omega (arith, c.well_formed.1.1, l.invariant.long, Descriptors.entry_room _ _ _ _ _ _ l.invariant c.loop-at-test.true (λ h. c.if-read16-ne-FREE.true (c.read16.ensures.is ∙ h)))
 
 pub advanced-at-requires : goal.advanced-at-requires
 advanced-at-requires c = (c.loop-at.invariant.stands.bounded, c.loop-at-test.true)
@@ -39,10 +40,10 @@ loop-at-preserved c =
     let here = c.loop-at-test.true in
     let is = c.read16.ensures.is in
     let after = c.advanced-at.ensures in
-    ⊎_elim
-    (λ w. rw (w.5, w.6, w.2.ensures) (Descriptors.next_live _ _ _ _ _ _ l.invariant here _ after (λ h. w.0.taken (is ∙ h))))
-    (λ w. rw (w.1, w.2) (Descriptors.next_free _ _ _ _ _ _ l.invariant here _ after (sym is ∙ w.0.left)))
-    c.if-read16-ne-FREE.branch
+    elim c.if-read16-ne-FREE.branch [
+      | then-read16-ne-FREE w ↦ rw (w.table-is, w.i-is, w.put_descriptor.ensures) (Descriptors.next_live _ _ _ _ _ _ l.invariant here _ after (λ h. w.if-read16-ne-FREE.true (is ∙ h)))
+      | else-read16-ne-FREE w ↦ rw (w.table-is, w.i-is) (Descriptors.next_free _ _ _ _ _ _ l.invariant here _ after (sym is ∙ w.if-read16-ne-FREE.false))
+    ]
 
 pub shape_of-table : goal.shape_of-table
 shape_of-table c = c.loop-at.invariant.long

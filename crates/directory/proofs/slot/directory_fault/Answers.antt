@@ -12,7 +12,7 @@ use Rattle.directory.proofs.Links
 use Rattle.directory.proofs.Blocks
 use Rattle.directory.proofs.Gaps
 use Rattle.directory.proofs.slot.directory_fault.Goals as goal
-use Rattle.directory.proofs.slot.directory_fault.Goals.{In-loop-left}
+use Rattle.directory.proofs.slot.directory_fault.Goals.{In-loop-left, then-b-e+else-a-end, else-b-e}
 
 -- the block at hand lies inside the image
 block_inside : (c : In-loop-left) → let a = c.args in block_end a.image.now c.loop-left.b ≤ length a.image.now
@@ -58,10 +58,10 @@ read32-b-requires c = omega (arith, block_inside (goal.at.read32-b-requires c).I
 pub loop-left-smaller : goal.loop-left-smaller
 loop-left-smaller c =
     let more = c.loop-left-test.true in
-    ⊎_elim
-    (λ w. omega (arith, w.5))
-    (λ w. ⊎_elim (λ e. omega (arith, w.4, e)) (λ e. omega (arith, w.4, e.0)) w.2.ensures)
-    c.if-b-e.branch
+    elim c.if-b-e.branch [
+      | then-b-e+else-a-end w ↦ omega (arith, w.left-is)
+      | else-b-e w ↦ ⊎_elim (λ e. omega (arith, w.left-is, e)) (λ e. omega (arith, w.left-is, e.0)) w.left_after-left.ensures
+    ]
 
 pub loop-left-preserved : goal.loop-left-preserved
 loop-left-preserved c =
@@ -69,20 +69,20 @@ loop-left-preserved c =
     let more = c.loop-left-test.true in
     let r = c.read32-b.ensures in
     let small = rw r.is at r.small in
-    ⊎_elim
-    (λ w.
-    let g = w.3.ensures in
-    let past = rw w.1.ensures.is at g.1 in
-    rw (r.is, w.4, w.5)
-    (Gaps.search_next _ _ _ _ _ _ _ inv more small _ g.0 (omega (arith, g.2)) (rw (g.3, g.4) (Gaps.here_block _ _ _ _ _ _ _ inv more))
-    (Blocks.past_block _ _ _ _ (rw w.1.ensures.is at w.2.left)) (λ h. absurd (omega (arith, past)))))
-    (λ w.
-    let g = w.1.ensures in
-    ⊎_elim
-    (λ e. let n : c.if-b-e.left ≡ c.loop-left.left - 1 = w.4 ∙ e in rw (r.is, w.3, n) (Gaps.search_next _ _ _ _ _ _ _ inv more small _ (omega (arith, g.0)) g.2 (rw (g.3, g.4) inv.block) (Blocks.before_block _ _ _ _ w.0.left) (λ h. g.1)))
-    (λ e. let n : c.if-b-e.left ≡ 0 = w.4 ∙ e.0 in rw (r.is, w.3, n) (Gaps.search_stop _ _ _ _ _ _ _ inv more small _ (omega (arith, g.0)) g.2 (rw (g.3, g.4) inv.block) (c.requires.0.rises e.1) w.0.left g.1))
-    w.2.ensures)
-    c.if-b-e.branch
+    elim c.if-b-e.branch [
+      | then-b-e+else-a-end w ↦
+          let g = w.from-around.ensures in
+          let past = rw w.read16.ensures.is at g.1 in
+          rw (r.is, w.around-is, w.left-is)
+          (Gaps.search_next _ _ _ _ _ _ _ inv more small _ g.0 (omega (arith, g.2)) (rw (g.3, g.4) (Gaps.here_block _ _ _ _ _ _ _ inv more))
+          (Blocks.past_block _ _ _ _ (rw w.read16.ensures.is at w.if-a-end.false)) (λ h. absurd (omega (arith, past))))
+      | else-b-e w ↦
+          let g = w.until-around.ensures in
+          ⊎_elim
+          (λ e. let n : c.if-b-e.left ≡ c.loop-left.left - 1 = w.left-is ∙ e in rw (r.is, w.around-is, n) (Gaps.search_next _ _ _ _ _ _ _ inv more small _ (omega (arith, g.0)) g.2 (rw (g.3, g.4) inv.block) (Blocks.before_block _ _ _ _ w.if-b-e.false) (λ h. g.1)))
+          (λ e. let n : c.if-b-e.left ≡ 0 = w.left-is ∙ e.0 in rw (r.is, w.around-is, n) (Gaps.search_stop _ _ _ _ _ _ _ inv more small _ (omega (arith, g.0)) g.2 (rw (g.3, g.4) inv.block) (c.requires.0.rises e.1) w.if-b-e.false g.1))
+          w.left_after-left.ensures
+    ]
 
 pub returns : goal.returns
 returns c =

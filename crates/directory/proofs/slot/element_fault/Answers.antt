@@ -29,7 +29,7 @@ rule : (c : Else-image-offset) (n : ℕ) → let a = c.args in
 rule c n e =
     let is = c.size-size.ensures.0 in
     let offset = c.read32-offset.ensures.is in
-    Slots.fault_directory _ _ _ _ (based c.«After-size-size») (tagged c.«After-size-size») (λ h. c.if-size-eq0.false (is ∙ h)) (rw (is, offset) at c.if-image-offset.false) n (rw (is, offset) at e)
+    Slots.fault_directory _ _ _ _ (λ h. c.if-kind-eq0.false (c.base-kind.ensures ∙ ap base_tag c.read16-tag.ensures.is ∙ h)) (λ h. c.if-tag-eq-EXTENDED_FREE.false (c.read16-tag.ensures.is ∙ h)) (λ h. c.if-size-eq0.false (is ∙ h)) (rw (is, offset) at c.if-image-offset.false) n (rw (is, offset) at e)
 
 pub read16-tag-requires : goal.read16-tag-requires
 read16-tag-requires c = omega (arith, c.requires.3)
