@@ -21,16 +21,16 @@ dimension_answer r =
 
 -- a dimension of the arguments of packing
 abbrev pub dimension_from : ℕ → ℕ → ℕ → ℕ → ℕ → ℕ → ℕ → ℕ → Dimension
-dimension_from x y type_tag_lem type_ref_lem elements interlace compression_tag_lem compression_ref_lem =
+dimension_from x y type_tag type_ref elements interlace compression_tag compression_ref =
     record {
       x = x;
       y = y;
-      type_tag = type_tag_lem;
-      type_ref = type_ref_lem;
+      type_tag = type_tag;
+      type_ref = type_ref;
       elements = elements;
       interlace = interlace;
-      compression_tag = compression_tag_lem;
-      compression_ref = compression_ref_lem;
+      compression_tag = compression_tag;
+      compression_ref = compression_ref;
     }
 
 abbrev pub array_answer : ArrayAnswer → Answer

@@ -51,11 +51,11 @@ pairs_answer r = record { number = r.number; place = r.place; values = r.pairs �
 
 -- the parts of a record to be packed, of the arguments
 abbrev pub ending_from : ℕ → ℕ → ℕ → ℕ → Ending
-ending_from extension_tag_lem extension_ref_lem version more =
-    record { extension_tag = extension_tag_lem; extension_ref = extension_ref_lem; version = version; more = more }
+ending_from extension_tag extension_ref version more =
+    record { extension_tag = extension_tag; extension_ref = extension_ref; version = version; more = more }
 
 abbrev pub start_from : ℕ → ℕ → ℕ → Start
-start_from interlace records record_size_lem = record { interlace = interlace; records = records; record_size = record_size_lem }
+start_from interlace records record_size = record { interlace = interlace; records = records; record_size = record_size }
 
 -- a value whose floats have bits
 abbrev pub HasBits : Value → Type 0

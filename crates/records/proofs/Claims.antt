@@ -90,11 +90,11 @@ dimension_packs s tag ref d b h =
     ∙ content_packs dimension s g.0 b (sym (Dimensions.sound_bytes e g.1.sound)) ∙ sym g.1.bytes)
 
 module _ (d : Dimension) (sound : dimension_pack_fault d ≡ 0) (x : d.x < 256 ^ 4) (y : d.y < 256 ^ 4)
-    (type_tag_lem : d.type_tag < 256 ^ 2) (type_ref_lem : d.type_ref < 256 ^ 2) (elements : d.elements < 256 ^ 2)
-    (compression_tag_lem : d.compression_tag < 256 ^ 2) (compression_ref_lem : d.compression_ref < 256 ^ 2) where
+    (type_tag : d.type_tag < 256 ^ 2) (type_ref : d.type_ref < 256 ^ 2) (elements : d.elements < 256 ^ 2)
+    (compression_tag : d.compression_tag < 256 ^ 2) (compression_ref : d.compression_ref < 256 ^ 2) where
   dimension_fits : Fits dimension (dimension_values d) 0
   dimension_fits =
-      (omega arith, x, (omega arith, y, (omega arith, type_tag_lem, (omega arith, type_ref_lem, (omega arith, elements, (omega arith, omega (arith, Dimensions.pack_sound d sound), (omega arith, compression_tag_lem, (omega arith, compression_ref_lem, refl))))))))
+      (omega arith, x, (omega arith, y, (omega arith, type_tag, (omega arith, type_ref, (omega arith, elements, (omega arith, omega (arith, Dimensions.pack_sound d sound), (omega arith, compression_tag, (omega arith, compression_ref, refl))))))))
 
   pub dimension_reads : (s : List ℕ) (tag ref p : ℕ) → (open_of s).number ≡ 0 → find s tag ref ≡ hit p → extended_at s p ≡ false
       → content_at s p ≡ dimension_bytes d → dimension_of s tag ref ≡ grant (dimension_values d)

@@ -16,16 +16,16 @@ use Rattle.records.specs.declared.dimension.Answered.TheVariants.{Values, Refuse
 abbrev pub dimension : Layout Dimension
 dimension =
     number 4 (λ x. number 4 (λ y.
-    number 2 (λ type_tag_lem. number 2 (λ type_ref_lem. number 2 (λ elements. number 2 (λ interlace. number 2 (λ compression_tag_lem. number 2 (λ compression_ref_lem.
+    number 2 (λ type_tag. number 2 (λ type_ref. number 2 (λ elements. number 2 (λ interlace. number 2 (λ compression_tag. number 2 (λ compression_ref.
     end (λ at. record {
       x = x;
       y = y;
-      type_tag = type_tag_lem;
-      type_ref = type_ref_lem;
+      type_tag = type_tag;
+      type_ref = type_ref;
       elements = elements;
       interlace = interlace;
-      compression_tag = compression_tag_lem;
-      compression_ref = compression_ref_lem;
+      compression_tag = compression_tag;
+      compression_ref = compression_ref;
     })))))))))
 
 abbrev pub dimension_values : Dimension → List ℕ

@@ -85,18 +85,18 @@ module _ (r : List ℕ) where
   unfolding full_fault
   full_fault_same e =
       let other : length r ≡ 16 → ⊥ = λ z. omega arith in
-      Descriptions.full_fault r other e ∙ ap (must (eqb (be 4 r 0) 1) 12) (sym (must_holds _ _ _ (eq-eqb (length r) 22 e))) ∙ sym (fault_long (omega arith))
+      Descriptions.full_fault_lem r other e ∙ ap (must (eqb (be 4 r 0) 1) 12) (sym (must_holds _ _ _ (eq-eqb (length r) 22 e))) ∙ sym (fault_long (omega arith))
 
   module _ (other : length r ≡ 16 → ⊥) (neither : length r ≡ 22 → ⊥) where
     short_before : (length r < 4) → (record_fault r ≡ 13) × (fault_before r ≡ 13)
     unfolding other_fault fault_before
-    short_before h = (Descriptions.other_fault r other neither ∙ must_fails _ _ _ (lt-leb 4 (length r) h), must_fails _ _ _ (lt-leb 4 (length r) h))
+    short_before h = (Descriptions.other_fault_lem r other neither ∙ must_fails _ _ _ (lt-leb 4 (length r) h), must_fails _ _ _ (lt-leb 4 (length r) h))
 
     -- a kind that is not 1 in 16 bits, or 1 in 32 too
     long_same : 4 ≤ length r → (be 2 r 0 ≡ 1 → ⊥) ⊎ (be 4 r 0 ≡ 1) → record_fault r ≡ fault_before r
     unfolding other_fault
     long_same h kind =
-        let now = Descriptions.other_fault r other neither ∙ must_holds _ _ _ (le-leb 4 (length r) h) in
+        let now = Descriptions.other_fault_lem r other neither ∙ must_holds _ _ _ (le-leb 4 (length r) h) in
         let before = ap (must (eqb (be 4 r 0) 1) 12) (must_fails _ _ _ (ne_eqb (length r) 22 neither)) in
         elim kind [
           | inl z ↦ now ∙ ap (λ b. must (b || eqb (be 4 r 0) 1) 12 13) (ne_eqb (be 2 r 0) 1 z) ∙ sym (fault_long h ∙ before)
@@ -124,7 +124,7 @@ module _ (r : List ℕ) where
     unfolding other_fault
     other_fault_changed (h, e, z) = (
       fault_long h ∙ must_fails _ _ _ (ne_eqb (be 4 r 0) 1 z),
-      Descriptions.other_fault r other neither ∙ must_holds _ _ _ (le-leb 4 (length r) h) ∙ must_holds _ _ _ (or_either _ _ (inl (eq-eqb (be 2 r 0) 1 e))),
+      Descriptions.other_fault_lem r other neither ∙ must_holds _ _ _ (le-leb 4 (length r) h) ∙ must_holds _ _ _ (or_either _ _ (inl (eq-eqb (be 2 r 0) 1 e))),
     )
 
 -- ---- The element

@@ -24,7 +24,7 @@ copied_numbers (copied.Refused r) = carrying 1 r
 -- an element by its storage: the first rule that its record breaks, how many bytes it has, the first fault of its chain and the index of the table
 -- or block that has it, and its bytes
 pub record Stored : Type 0 where
-  pub record_fault_lem : ℕ
+  pub record_fault : ℕ
   pub size : ℕ
   pub chain_fault : ℕ
   pub chain_index : ℕ
@@ -32,11 +32,11 @@ pub record Stored : Type 0 where
 
 -- in plain storage
 unfoldable pub in_place : List ℕ → ℕ → ℕ → Stored
-in_place s offset size = record { record_fault_lem = 0; size = size; chain_fault = 0; chain_index = 0; bytes = part s offset size }
+in_place s offset size = record { record_fault = 0; size = size; chain_fault = 0; chain_index = 0; bytes = part s offset size }
 
 -- by what a walk over its chain comes to
 abbrev pub of_walk : ℕ → ℕ → Walk → Stored
-of_walk fault size w = record { record_fault_lem = fault; size = size; chain_fault = w.fault; chain_index = w.index; bytes = w.bytes }
+of_walk fault size w = record { record_fault = fault; size = size; chain_fault = w.fault; chain_index = w.index; bytes = w.bytes }
 
 -- in linked blocks, by the bytes of its record
 unfoldable pub in_blocks : List ℕ → List ℕ → Stored

@@ -46,8 +46,8 @@ Sound e = ((group_in e).tail.end ≤ length e) × ((group_in e).tail.version ≡
 record_sound : (e : List ℕ) → Sound e ⊎ (Sound e → ⊥)
 record_sound e = elim (same? (group_fault e) 0) [ inl f ↦ inl (group_passed e f) | inr f ↦ inr (λ h. f (group_sound e h.0 h.1)) ]
 
-record_fault_lem : (e : List ℕ) → (Sound e → ⊥) → group_fault e ≡ 15
-record_fault_lem e z =
+record_fault : (e : List ℕ) → (Sound e → ⊥) → group_fault e ≡ 15
+record_fault e z =
     elim (test (leb (group_in e).tail.end (length e))) [
       | inr b ↦ group_long e (omega (arith, leb-false (group_in e).tail.end (length e) b))
       | inl b ↦ let l = leb-true (group_in e).tail.end (length e) b in group_version e l (λ v. z (l, v))
@@ -62,7 +62,7 @@ group_goes s found =
     goes_plain _ _ s _ found (λ x l. sound_refused group_fault s (located_at s found) x l)
     (λ o n l. let b = reads_bytes s found _ refl _ o n l in
     goes_rule _ _ 15 _ _ _ (record_sound e)
-    (λ z. sound_broken group_fault s _ _ o n l e b 15 (sym (record_fault_lem e z)) (suc-ne-zero 14))
+    (λ z. sound_broken group_fault s _ _ o n l e b 15 (sym (record_fault e z)) (suc-ne-zero 14))
     (λ h. goes_done _ _ (o, n, sound_passes group_fault s _ _ o n l e b (group_sound e h.0 h.1))))
 
 -- and both directions
@@ -82,7 +82,7 @@ group_read_by s ref room =
     let e = record_bytes s found in
     by_opened 9 s _ _ (by_plain 9 s found group_fault _ _ (λ o.
     goes_rule _ _ 15 _ _ _ (record_sound e)
-    (λ z. let f = record_fault_lem e z in
+    (λ z. let f = record_fault e z in
     (unless_stops 9 (group_fault e) _ _ (λ q. suc-ne-zero 14 (sym f ∙ q)) ∙ ap (λ n. refuse 9 n (slot_in found)) f, suc-ne-zero 14))
     (λ h. by_same 9 _ _ _ (unless_passes 9 (group_fault e) _ _ (group_sound e h.0 h.1))
     (by_room 9 _ _ _ (leb-true (2 * be 2 e 0) room, le-leb (2 * be 2 e 0) room) refl))))

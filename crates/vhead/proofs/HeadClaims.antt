@@ -52,7 +52,7 @@ head_packs s ref a b bytes granted =
 pub record Packable (b : Start) (rows lengths all name class : List ℕ) (x : Ending) : Type 0 where
   pub sound : head_pack_fault b rows lengths (length all) (length name) (length class) x.version ≡ 0
   pub records : b.records < 4294967296
-  pub record_size_lem : b.record_size < 65536
+  pub record_size : b.record_size < 65536
   pub narrow : (i : ℕ) → get_or rows i 0 < 65536
   pub short : (i : ℕ) → get_or lengths i 0 < 65536
   pub told : Bytes all

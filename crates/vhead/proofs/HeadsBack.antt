@@ -203,7 +203,7 @@ module _ (b : Start) (rows lengths all name class : List ℕ) (x : Ending)
       ∙ same_places b n _
       ∙ ap (λ k. placed_head b n (tail_given name class x k)) z
 
-  module _ (records : b.records < 4294967296) (record_size_lem : b.record_size < 65536) (narrow : (i : ℕ) → get_or rows i 0 < 65536)
+  module _ (records : b.records < 4294967296) (record_size : b.record_size < 65536) (narrow : (i : ℕ) → get_or rows i 0 < 65536)
       (short : (i : ℕ) → get_or lengths i 0 < 65536) (told : Bytes all) (named : Bytes name) (classed : Bytes class) (ending : Narrow x) where
     fits : Fits head (numbers_of b rows lengths all name class x) 0
     fits =
@@ -222,7 +222,7 @@ module _ (b : Start) (rows lengths all name class : List ℕ) (x : Ending)
             records,
             (
               omega arith,
-              record_size_lem,
+              record_size,
               (
                 omega arith,
                 omega (arith, rules.few),

@@ -32,12 +32,12 @@ names (suc n) then = text (λ name size. names n then)
 -- interlace 16, records 32, record size 16, field count 16; all types, all sizes, all offsets, all orders; the names; the tail
 abbrev pub head : Layout Head
 head =
-    number 2 (λ interlace. number 4 (λ records. number 2 (λ record_size_lem. number 2 (λ fields.
+    number 2 (λ interlace. number 4 (λ records. number 2 (λ record_size. number 2 (λ fields.
     run 2 fields (λ types. run 2 fields (λ sizes. run 2 fields (λ offsets. run 2 fields (λ orders.
     run 0 0 (λ names_at. names fields (tail (λ t. record {
       interlace = interlace;
       records = records;
-      record_size = record_size_lem;
+      record_size = record_size;
       fields = fields;
       types = types;
       sizes = sizes;
@@ -95,13 +95,13 @@ typed (f ∷ fs) = leb 1 (width_of f.code) && typed fs
 
 -- size = order x type size; offset = sum of earlier sizes; record size = sum of all
 unfoldable pub sized : ℕ → ℕ → List Numbers → Bool
-sized record_size_lem sum [] = eqb record_size_lem sum
-sized record_size_lem sum (f ∷ fs) =
-    eqb f.size (f.order * width_of f.code) && eqb f.offset sum && sized record_size_lem (sum + f.size) fs
+sized record_size sum [] = eqb record_size sum
+sized record_size sum (f ∷ fs) =
+    eqb f.size (f.order * width_of f.code) && eqb f.offset sum && sized record_size (sum + f.size) fs
 
 -- orders, then types, then sizes
 unfoldable pub fields_fault : ℕ → List Numbers → ℕ
-fields_fault record_size_lem fs = must (ordered fs) RECORD (must (typed fs) TYPE (must (sized record_size_lem 0 fs) RECORD 0))
+fields_fault record_size fs = must (ordered fs) RECORD (must (typed fs) TYPE (must (sized record_size 0 fs) RECORD 0))
 
 -- ---- Reading
 
@@ -154,9 +154,9 @@ unless_long k s answer = unless k (must (leb (length s) most_bytes) TOO_LONG 0) 
 
 -- what a reading at what a lookup found leaves in the two lists
 abbrev pub ReadsHead : Answer → List ℕ → Hit → List ℕ → List ℕ → List ℕ → List ℕ → Answer → Type 0
-ReadsHead answer s found fields fields_after_lem names names_after_lem numbers =
-    Does answer (head_fields (record_bytes s found)) fields fields_after_lem numbers
-    × Does answer (head_names (start_of s found) (record_bytes s found)) names names_after_lem numbers
+ReadsHead answer s found fields fields_after names names_after numbers =
+    Does answer (head_fields (record_bytes s found)) fields fields_after numbers
+    × Does answer (head_names (start_of s found) (record_bytes s found)) names names_after numbers
 
 -- ---- One field with its name
 

@@ -40,7 +40,7 @@ judge_all j [] = j
 judge_all j (f ∷ fs) = judge_all (judge j f) fs
 
 unfoldable pub verdict : Judged → ℕ → ℕ
-verdict j record_size_lem = must j.orders RECORD (must j.types TYPE (must (j.sizes && eqb record_size_lem j.sum) RECORD 0))
+verdict j record_size = must j.orders RECORD (must j.types TYPE (must (j.sizes && eqb record_size j.sum) RECORD 0))
 
 -- the numbers that a head with so many fields starts with
 abbrev pub start_bytes : Start → ℕ → List ℕ

@@ -105,8 +105,8 @@ ending_of t = record { extension_tag = t.extension_tag; extension_ref = t.extens
 
 -- the last numbers have 16 bits
 pub record Narrow (x : Ending) : Type 0 where
-  pub extension_tag_lem : x.extension_tag < 65536
-  pub extension_ref_lem : x.extension_ref < 65536
+  pub extension_tag : x.extension_tag < 65536
+  pub extension_ref : x.extension_ref < 65536
   pub version : x.version < 65536
   pub more : x.more < 65536
 

@@ -21,15 +21,15 @@ names_end e (suc n) at = names_end e n (at + 2 + be 2 e at)
 -- name length, name, class length, class, extension tag, extension reference, version, more; 16 bits each
 abbrev pub tail : {A : Type 0} → (Tail → A) → Layout A
 tail read =
-    text (λ name name_length_lem. text (λ class class_length_lem.
-    number 2 (λ extension_tag_lem. number 2 (λ extension_ref_lem. number 2 (λ version. number 2 (λ more.
+    text (λ name name_length. text (λ class class_length.
+    number 2 (λ extension_tag. number 2 (λ extension_ref. number 2 (λ version. number 2 (λ more.
     end (λ at. read (record {
       name = name;
-      name_length = name_length_lem;
+      name_length = name_length;
       class = class;
-      class_length = class_length_lem;
-      extension_tag = extension_tag_lem;
-      extension_ref = extension_ref_lem;
+      class_length = class_length;
+      extension_tag = extension_tag;
+      extension_ref = extension_ref;
       version = version;
       more = more;
       end = at;

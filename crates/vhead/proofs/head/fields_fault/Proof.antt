@@ -10,10 +10,10 @@ use Rattle.vhead.proofs.head.fields_fault.Statement.{statement}
 use Rattle.vhead.proofs.head.fields_fault.Tie as tie
 
 abbrev invariant_loop : tie.invariant-loop
-invariant_loop part fields record_size_lem so-far₀ i₀ so_far i = HeadsJudged.Judges (field_at part (head_in part)) fields so_far i
+invariant_loop part fields record_size so-far₀ i₀ so_far i = HeadsJudged.Judges (field_at part (head_in part)) fields so_far i
 
 abbrev decreases_loop : tie.decreases-loop
-decreases_loop part fields record_size_lem so-far₀ i₀ so_far i = fields - i
+decreases_loop part fields record_size so-far₀ i₀ so_far i = fields - i
 
 loop-holds : tie.Need-loop-init invariant_loop decreases_loop
 loop-holds c = HeadsJudged.judges_start _ _

@@ -10,10 +10,10 @@ use Rattle.vhead.proofs.head.rows_fault.Statement.{statement}
 use Rattle.vhead.proofs.head.rows_fault.Tie as tie
 
 abbrev invariant_loop : tie.invariant-loop
-invariant_loop rows count record_size_lem so-far₀ i₀ so_far i = HeadsJudged.Judges (row_at rows) count so_far i
+invariant_loop rows count record_size so-far₀ i₀ so_far i = HeadsJudged.Judges (row_at rows) count so_far i
 
 abbrev decreases_loop : tie.decreases-loop
-decreases_loop rows count record_size_lem so-far₀ i₀ so_far i = count - i
+decreases_loop rows count record_size so-far₀ i₀ so_far i = count - i
 
 loop-holds : tie.Need-loop-init invariant_loop decreases_loop
 loop-holds c = HeadsJudged.judges_start _ _
