@@ -1,6 +1,6 @@
 -- Edits go by their rules: each is granted exactly if all of them hold, and refused exactly as the first broken one says.
 -- Assumes nothing.
-use Prim.Native.Nat.{ℕ, ◌+◌, ◌-◌, ◌<◌, ◌≤◌}
+use Prim.Native.Nat.{ℕ, ◌+◌, ◌<◌, ◌≤◌}
 use mathlib.Core.Path.{◌≡◌, refl, sym, ◌∙◌}
 use mathlib.Core.Logic.{◌↔◌, ◌⊎◌, inl, inr}
 use mathlib.Core.List.{List, []}
@@ -28,7 +28,6 @@ use Rattle.journal.specs.Edits.{free_slot, new_block, slot_edit, block_edit, fit
 use Rattle.journal.specs.EditRules.{FirstFree}
 use Rattle.journal.specs.Buffers.{image_in, add_in, replace_in, remove_in}
 use Rattle.journal.specs.Trailers.{Author, named, trailer_size}
-use Rattle.journal.specs.Undos.{opens}
 use Rattle.journal.specs.Rules.{image_rules, EditTag, FreeSlot, NoneFree, HasRoom, AddedFits, add_rules, change_rules, replace_rules, remove_rules}
 use Rattle.journal.proofs.Outcomes.{tag_good, tag_bad, refused_granted, passing_stops, opened_to_goes, fault_long, fault_room, fault_none, fitted_there, fitted_fault}
 use Rattle.journal.proofs.Trailers.{length_trailer}
