@@ -1,0 +1,31 @@
+-- `vgroup::group::read` meets its contract. Assumes nothing.
+use Prim.Native.Nat.{ℕ}
+use mathlib.Core.List.{List}
+use mathlib.Core.Path.{sym, ap, subst, ◌∙◌}
+use lib.ListN.{length}
+use Rattle.answer.specs.Answer.{Answer}
+use Rattle.answer.specs.Search.{Hit}
+use Rattle.directory.proofs.Opens
+use Rattle.records.specs.Readings.{record_bytes}
+use Rattle.vgroup.specs.Limits.{group_tag}
+use Rattle.vgroup.specs.Groups.{group_members, group_at, group_of}
+use Rattle.vgroup.specs.Steps.{Held}
+use Rattle.vgroup.proofs.group.read.Goals as goal
+
+pub returns-in_default : goal.returns-in_default
+unfolding group_of
+returns-in_default c =
+    let o = c.open-opened.ensures in
+    let told = c.in_default.is in
+    let taken = c.refusal_of.ensures in
+    (Opens.unopened_does _ _ o 9 _ _ _ _ told _ taken, λ z. Opens.refused_positive _ _ o _ told (sym (ap (λ r. r.number) taken) ∙ z))
+
+pub returns : goal.returns
+unfolding group_of
+returns c =
+    let a = c.args in
+    let o = Opens.accepted_with _ _ c.open-opened.ensures _ c.in-Accepted.is in
+    let answer : Hit → Answer = λ h. group_at a.image.now h (length a.members.now) in
+    let members : Hit → List ℕ = λ h. group_members (record_bytes a.image.now h) in
+    let r = c.read_in in
+    (Opens.opened_does 9 _ _ group_tag a.reference o answer members _ _ _ r.ensures.0, subst (λ h. Held a.image.now h r.result) (Opens.opened_find _ _ group_tag a.reference o) r.ensures.1)
