@@ -67,7 +67,7 @@ fair_nested : (more : ℕ) (s : List ℕ) (p ref room : ℕ) → Fair room (nest
 unfolding nested_from
 fair_nested zero s p ref room = fair_stopped room DEEP p
 fair_nested (suc more) s p ref room =
-    fair_entered s _ (λ q b left. fair_members (nested_from more s q) (fair_nested more s q) (group_members b) left) (sound_group s (find s group_tag ref)) room
+    fair_entered s (λ q b left. members_from (nested_from more s q) (group_members b) left) (λ q b left. fair_members (nested_from more s q) (fair_nested more s q) (group_members b) left) (sound_group s (find s group_tag ref)) room
 
 -- a listing has no more pairs than there is place for
 pub listed_few : (groups : ℕ) (s : List ℕ) (p : ℕ) (b : List ℕ) (room : ℕ) → length (list_from groups s p b room).pairs ≤ 2 * room
@@ -183,13 +183,16 @@ module _ {s b : List ℕ} {slot groups room at : ℕ} {table₀ : List ℕ} {n :
   -- what follows the member
   next : (g : Bool) → eqb tag group_tag ≡ g → list_from groups s slot b room ≡ joined done (elim g [ false ↦ rest left | true ↦ followed_by inner (rest (left - length inner.pairs / 2)) ])
   unfolding members_from
-  next g q =
+  next false q =
       let k : room - pairs ≡ suc left = omega (arith, w.room_left) in
-      let one : members_from nest (members_after b n i) (room - pairs)
-      ≡ pair tag ref (elim g [ false ↦ rest left | true ↦ followed_by inner (rest (left - length inner.pairs / 2)) ]) =
-      rw (members_next b n i w.more, ← w.tag_is, ← w.ref_is, k, members_from, q) in
-      w.walk.whole ∙ ap (joined w.walk.done) one
-      ∙ regroup w.walk.done (tag ∷ ref ∷ []) _
+      let one : members_from nest (members_after b n i) (room - pairs) ≡ pair tag ref (rest left) =
+      rw (members_next b n i w.more, k, ← w.tag_is, q, ← w.ref_is) refl in
+      w.walk.whole ∙ ap (joined w.walk.done) one ∙ regroup w.walk.done (tag ∷ ref ∷ []) _
+  next true q =
+      let k : room - pairs ≡ suc left = omega (arith, w.room_left) in
+      let one : members_from nest (members_after b n i) (room - pairs) ≡ pair tag ref (followed_by inner (rest (left - length inner.pairs / 2))) =
+      rw (members_next b n i w.more, k, ← w.tag_is, q, ← w.ref_is) refl in
+      w.walk.whole ∙ ap (joined w.walk.done) one ∙ regroup w.walk.done (tag ∷ ref ∷ []) _
 
   -- a member that is no group
   pub walk_other : (tag ≡ group_tag → ⊥) → Walking s b slot groups room at table₀ n after (pairs + 1) (i + 1)

@@ -21,10 +21,10 @@ pub returns-then-number-ne0 : goal.returns-then-number-ne0
 returns-then-number-ne0 c = Packings.packs_fault _ _ _ _ c.pack_fault-number.ensures c.if-number-ne0.true
 
 pub overflow_add-length-2 : goal.overflow_add-length-2
-overflow_add-length-2 c = let s = sound c in omega (arith, s.few, s.sound.name-short)
+overflow_add-length-2 c = let s = sound c in omega (arith, s.few, s.sound.name_short)
 
 pub overflow_add-length-3 : goal.overflow_add-length-3
-overflow_add-length-3 c = let s = sound c in omega (arith, s.few, s.sound.name-short, s.sound.class-short)
+overflow_add-length-3 c = let s = sound c in omega (arith, s.few, s.sound.name_short, s.sound.class_short)
 
 pub returns-then-out-length : goal.returns-then-out-length
 returns-then-out-length c =

@@ -18,7 +18,10 @@ returns-in_default c =
     let o = c.open-opened.ensures in
     let told = c.in_default.is in
     let taken = c.refusal_of.ensures in
-    (Opens.unopened_does _ _ o 9 _ _ _ _ told _ taken, λ z. Opens.refused_positive _ _ o _ told (sym (ap (λ r. r.number) taken) ∙ z))
+    record {
+      answer = Opens.unopened_does _ _ o 9 _ _ _ _ told _ taken;
+      held = λ z. Opens.refused_positive _ _ o _ told (sym (ap (λ r. r.number) taken) ∙ z);
+    }
 
 pub returns : goal.returns
 unfolding group_of
@@ -28,4 +31,7 @@ returns c =
     let answer : Hit → Answer = λ h. group_at a.image.now h (length a.members.now) in
     let members : Hit → List ℕ = λ h. group_members (record_bytes a.image.now h) in
     let r = c.read_in in
-    (Opens.opened_does 9 _ _ group_tag a.reference o answer members _ _ _ r.ensures.0, subst (λ h. Held a.image.now h r.result) (Opens.opened_find _ _ group_tag a.reference o) r.ensures.1)
+    record {
+      answer = Opens.opened_does 9 _ _ group_tag a.reference o answer members _ _ _ r.ensures.answer;
+      held = subst (λ h. Held a.image.now h r.result) (Opens.opened_find _ _ group_tag a.reference o) r.ensures.held;
+    }

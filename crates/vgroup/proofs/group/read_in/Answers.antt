@@ -15,14 +15,19 @@ sound : (c : After-part-part) → group_fault c.part-part.result.now ≡ 0
 sound c = ap group_fault c.part-part.ensures ∙ (Readings.sound_plain group_fault _ _ _ _ _ (sym c.find-located.ensures ∙ c.in-Plain.is)).1
 
 pub returns-in_default : goal.returns-in_default
-returns-in_default c = Groups.unsound _ _ _ _ (sym c.find-located.ensures ∙ c.in_default.is) _ (c.refusal_of.ensures ∙ ap refusal_in c.in_default.is)
+returns-in_default c =
+    let both = Groups.unsound _ _ _ _ (sym c.find-located.ensures ∙ c.in_default.is) _ (c.refusal_of.ensures ∙ ap refusal_in c.in_default.is) in
+    record { answer = both.0; held = both.1 }
 
 pub overflow_mul-group : goal.overflow_mul-group
 overflow_mul-group c = omega (arith, Groups.group_room _ (sound (goal.at.overflow_mul-group c).After-part-part) _ c.parse-group.ensures)
 
 pub returns-then-members-group : goal.returns-then-members-group
 returns-then-members-group c =
-    (Groups.small _ _ _ _ _ _ (sym c.find-located.ensures ∙ c.in-Plain.is) _ c.part-part.ensures _ c.parse-group.ensures c.if-members-group.true, suc-ne-zero 13)
+    record {
+      answer = Groups.small _ _ _ _ _ _ (sym c.find-located.ensures ∙ c.in-Plain.is) _ c.part-part.ensures _ c.parse-group.ensures c.if-members-group.true;
+      held = suc-ne-zero 13;
+    }
 
 pub put_members-requires : goal.put_members-requires
 put_members-requires c = (c.if-members-group.false, Groups.group_room _ (sound (goal.at.put_members-requires c).After-part-part) _ c.parse-group.ensures)
@@ -32,4 +37,7 @@ returns c =
     let sound_is = sym c.find-located.ensures ∙ c.in-Plain.is in
     let of = c.part-part.ensures in
     let parsed = c.parse-group.ensures in
-    (Groups.listed _ _ _ _ _ _ sound_is _ of _ parsed c.if-members-group.false _ c.put_members.ensures, Groups.held _ _ [] _ _ _ sound_is _ of _ parsed)
+    record {
+      answer = Groups.listed _ _ _ _ _ _ sound_is _ of _ parsed c.if-members-group.false _ c.put_members.ensures;
+      held = Groups.held _ _ [] _ _ _ sound_is _ of _ parsed;
+    }
