@@ -1,5 +1,4 @@
 -- `vdata::value::signed` meets its contract. Assumes nothing.
-use borrow.Author.Rules.{rules}
 use Prim.Native.Nat.{ℕ, ◌*◌, ◌<◌, ◌^◌}
 use native.Mathlib.Omega.{arith}
 use mathlib.Core.Path.{◌≡◌, ap, ◌∙◌}
@@ -11,8 +10,7 @@ use mir.Facts.{to_z_pos, to_z-of_z}
 use Rattle.vdata.specs.Patterns.{signed_by}
 use Rattle.vdata.specs.declared.value.Value.TheVariants.{Signed}
 use Rattle.vdata.proofs.Patterns.{less_fits}
-use Rattle.vdata.proofs.value.signed.Statement.{statement}
-use Rattle.vdata.proofs.value.signed.Tie as tie
+use Rattle.vdata.proofs.value.signed.Goals as goal
 
 is_pos : (n : ℕ) → n < 2 ^ 63 → to_z w64 n ≡ pos n
 is_pos n h = to_z_pos w64 (omega arith)
@@ -23,31 +21,19 @@ less n k h j = rw (is_pos n h, is_pos k j)
 fits : (n k : ℕ) → n < 2 ^ 63 → k < 2 ^ 63 → SFits w64 (to_z w64 n -ℤ to_z w64 k)
 fits n k h j = rw (less n k h j) (less_fits n k h j)
 
-cast-z : tie.Need-overflow-cast-z
-cast-z c = search rules
-
-returns : tie.Need-returns
+pub returns-then-n-half : goal.returns-then-n-half
 unfolding signed_by
-returns c =
-    let n = c.before.args.n in
-    let half = c.before.args.half in
+returns-then-n-half c =
+    let n = c.args.n in
+    let half = c.args.half in
     ap Signed (is_pos n (omega arith)) ∙ simp (signed_by, lt-ltb (2 * n) (2 * half) (omega arith))
 
-mul-whole : tie.Need-overflow-mul-whole
-mul-whole c = search rules
+pub overflow_sub-result : goal.overflow_sub-result
+overflow_sub-result c = fits c.args.n (2 * c.args.half) (omega arith) (omega arith)
 
-cast-whole : tie.Need-overflow-cast-whole
-cast-whole c = search rules
-
-sub-t7 : tie.Need-overflow-sub-t7
-sub-t7 c = fits c.before.args.n (2 * c.before.args.half) (omega arith) (omega arith)
-
-returns-2 : tie.Need-returns-2
+pub returns : goal.returns
 unfolding signed_by
-returns-2 c =
-    let n = c.before.args.n in
-    let half = c.before.args.half in
+returns c =
+    let n = c.args.n in
+    let half = c.args.half in
     ap Signed (to_z-of_z (fits n (2 * half) (omega arith) (omega arith)) ∙ less n (2 * half) (omega arith) (omega arith)) ∙ simp (signed_by, le-ltb (2 * n) (2 * half) (omega arith))
-
-pub signed_spec : {M : Type 1} → statement M
-signed_spec = tie.close (tie.spec cast-z returns mul-whole cast-whole sub-t7 returns-2)

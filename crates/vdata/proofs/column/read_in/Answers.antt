@@ -1,0 +1,17 @@
+-- `vdata::column::read_in` meets its contract. Assumes nothing.
+use mathlib.Core.Path.{sym, ◌∙◌}
+use Rattle.vdata.proofs.Columns
+use Rattle.vdata.proofs.column.read_in.Goals as goal
+
+pub returns-in_default : goal.returns-in_default
+returns-in_default c = Columns.read_refused _ _ _ _ _ _ _ c.locate-located.ensures _ c.in_default.is _ c.refusal_of.ensures _
+
+pub returns-then-number-ne0 : goal.returns-then-number-ne0
+returns-then-number-ne0 c = Columns.read_broken _ _ _ _ _ _ _ c.locate-located.ensures _ _ _ c.in-Plain.is _ c.part-part.ensures _ c.fault-number.ensures c.if-number-ne0.true _
+
+pub read_after-requires : goal.read_after-requires
+read_after-requires c = sym c.fault-number.ensures ∙ c.if-number-ne0.false
+
+pub returns : goal.returns
+returns c =
+    Columns.read_goes _ _ _ _ _ _ _ c.locate-located.ensures _ _ _ c.in-Plain.is _ c.part-part.ensures (sym c.fault-number.ensures ∙ c.if-number-ne0.false) _ _ _ c.read_after.ensures
