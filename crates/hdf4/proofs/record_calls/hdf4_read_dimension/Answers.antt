@@ -1,0 +1,12 @@
+-- `hdf4::record_calls::hdf4_read_dimension` meets its contract. Assumes nothing.
+use mathlib.Core.Path.{sym, ap, ◌∙◌}
+use Rattle.records.specs.Dimensions.{dimension_numbers}
+use Rattle.answer.proofs.Answer.{told}
+use Rattle.hdf4.proofs.Proper
+use Rattle.hdf4.proofs.record_calls.hdf4_read_dimension.Goals as goal
+
+pub returns-in-Values : goal.returns-in-Values
+returns-in-Values c = ap dimension_numbers (sym c.in-Values.is) ∙ c.read-answered.ensures
+
+pub returns-in-Refused : goal.returns-in-Refused
+returns-in-Refused c = told 8 c.in-Refused.r _ (Proper.dimension_proper _ _ _) (ap dimension_numbers (sym c.in-Refused.is) ∙ c.read-answered.ensures)
