@@ -9,7 +9,7 @@ use borrow.Author.Tests.{eqb-true, eqb-false, eq-eqb, ltb-true, ltb-false}
 use lib.Bits.{bit_or, or_shr, or_mod, or_comm, or_zero_r}
 use lib.Dec.{eqb, ltb}
 use lib.Pow.{pow_pos, pow-lt, shl-shr, pow-add}
-use lib.ListN.{length, get_or, set, replicate, length-set, get_or-eq_default}
+use lib.ListN.{length, get_or, replicate, length-set, get_or-eq_default}
 use lib.Seq.{get_or-set_same, get_or-set_other, set_out}
 use Rattle.marks.specs.Marks.{bit_of, marked, with_mark}
 

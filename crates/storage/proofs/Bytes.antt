@@ -15,7 +15,7 @@ use Rattle.answer.proofs.Links.{link_next, links_snoc}
 use Rattle.wire.specs.Numbers.{part}
 use Rattle.wire.proofs.Numbers.{part_first, part_second}
 use Rattle.storage.specs.Tables.{linked_bytes, next_table, block_ref, next_of, tables_after, table_fault, linked_block_fault, block_bytes}
-use Rattle.storage.specs.Walks.{share, Walk, joined, blocks_from, tables_from, chain_of}
+use Rattle.storage.specs.Walks.{share, blocks_from, tables_from, chain_of}
 use Rattle.storage.specs.Links.{table_at, block_at, bytes_before, Needed, taken}
 use Rattle.storage.specs.declared.description.Description.{Description}
 use Rattle.storage.proofs.Walks.{share_less, block_passed, blocks_fault, blocks_next, blocks_total, then_stops, then_goes, tables_many, tables_fault, tables_next}

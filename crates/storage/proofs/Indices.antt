@@ -6,7 +6,6 @@ use native.Mathlib.Numerals.{add-one}
 use mathlib.Core.Path.{◌≡◌, refl, sym, ap, ◌∙◌}
 use mathlib.Core.Logic.{◌↔◌, ◌⊎◌, inl, inr}
 use mathlib.Core.List.{List, [], ◌∷◌, ◌++◌}
-use lib.ListN.{length}
 use Rattle.answer.specs.Links.{link_after, links_after}
 use Rattle.answer.proofs.Tests.{same?, le?}
 use Rattle.answer.proofs.Links.{link_next, links_snoc, length_links}

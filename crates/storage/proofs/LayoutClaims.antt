@@ -1,7 +1,7 @@
 -- The claims about the two layouts of a record of linked blocks, after request (iii) of document 02: what each is read into, which bytes of the element
 -- each block gives, and that a record of 22 bytes answers as it did before. Assumes nothing.
-use Prim.Native.Nat.{ℕ, zero, suc, ◌+◌, ◌*◌, ◌-◌, ◌/◌, ◌<◌, ◌≤◌}
-use native.Mathlib.Nat.{zero-mul, suc-mul, div-add-mod', mod-lt}
+use Prim.Native.Nat.{ℕ, suc, ◌+◌, ◌*◌, ◌-◌, ◌/◌, ◌<◌, ◌≤◌}
+use native.Mathlib.Nat.{zero-mul, div-add-mod', mod-lt}
 use native.Mathlib.Omega.{arith}
 use mathlib.Core.Path.{◌≡◌, refl, sym, ap, ◌∙◌}
 use mathlib.Core.Logic.{inl, inr}
@@ -20,7 +20,7 @@ use Rattle.directory.specs.Named.{Named}
 use Rattle.storage.specs.Elements.{extended_at}
 use Rattle.storage.specs.Descriptions.{first_length, description_of, record_fault}
 use Rattle.storage.specs.Tables.{linked_bytes, block_ref, block_bytes}
-use Rattle.storage.specs.Links.{table_at, block_at, bytes_before, Needed, taken, LinkSlot, copy_rules, ReachesBlock, no_block}
+use Rattle.storage.specs.Links.{block_at, bytes_before, Needed, taken, LinkSlot, copy_rules, ReachesBlock, no_block}
 use Rattle.storage.specs.Walks.{share}
 use Rattle.storage.specs.Copies.{in_blocks, copy_at, copy_of, element_bytes}
 use Rattle.storage.specs.Before.{fault_before, in_blocks_before}

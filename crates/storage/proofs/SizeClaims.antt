@@ -20,8 +20,8 @@ use Rattle.directory.proofs.Opens.{opened_stops}
 use Rattle.storage.specs.Elements.{extended_at, element_at}
 use Rattle.storage.specs.Descriptions.{record_length, record_fault}
 use Rattle.storage.specs.Links.{record_rules}
-use Rattle.storage.specs.Copies.{Stored, in_place, in_blocks, copy_at, copy_found, copy_of}
-use Rattle.storage.specs.Sizes.{size_of_stored, size_found, size_of}
+use Rattle.storage.specs.Copies.{Stored, in_place, in_blocks, copy_at, copy_of}
+use Rattle.storage.specs.Sizes.{size_of_stored, size_of}
 use Rattle.storage.specs.declared.element.Element.{Element}
 use Rattle.storage.specs.declared.element.Element.TheVariants.{Absent, NotStored, Plain, Extended}
 use Rattle.storage.proofs.Named.{named_absent, named_plain, named_extended}

@@ -27,7 +27,6 @@ use Rattle.records.proofs.Packings.{packs_back}
 use Rattle.records.proofs.RecordRules.{by_exactly, by_unstored}
 use Rattle.answer.proofs.Answer.{in_room_enough, in_room_passed}
 use Rattle.vset.specs.Columns.{rows2}
-use Rattle.vset.specs.Tails.{tail}
 use Rattle.vset.specs.declared.tail.Tail.{Tail}
 use Rattle.vset.specs.declared.tail.Ending.{Ending}
 use Rattle.vset.proofs.Tails.{Narrow, ending_of, tail_named}
@@ -35,7 +34,7 @@ use Rattle.vgroup.specs.Limits.{group_tag}
 use Rattle.vgroup.specs.Groups.{group, group_fault, group_members, group_values, group_at, group_of, group_bytes, group_pack_fault}
 use Rattle.vgroup.specs.declared.group.Group.{Group}
 use Rattle.vgroup.specs.GroupRules.{group_read_rules}
-use Rattle.vgroup.proofs.Groups.{group_in, tail_after, members_are, length_members, pack_passed}
+use Rattle.vgroup.proofs.Groups.{group_in, tail_after, length_members, pack_passed}
 use Rattle.vgroup.proofs.GroupsBack.{pack_own, own_passes, read_back}
 use Rattle.vgroup.proofs.GroupFacts.{group_read_by}
 

@@ -21,7 +21,6 @@ use Rattle.records.proofs.Readings.{record_granted, content_passes, content_byte
 use Rattle.records.proofs.Packings.{packs_back}
 use Rattle.answer.proofs.Answer.{in_room_enough}
 use Rattle.vset.specs.Columns.{every}
-use Rattle.vset.specs.Tails.{tail}
 use Rattle.vset.specs.declared.tail.Ending.{Ending}
 use Rattle.vset.proofs.Tails.{Narrow, ending_of}
 use Rattle.vhead.specs.Limits.{head_tag}

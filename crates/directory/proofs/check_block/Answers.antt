@@ -1,21 +1,17 @@
 -- `directory::check_block` meets its contract. The outer invariant: what the rest of the slots answers is the answer; the inner one: what is
 -- still to be searched of the blocks before decides. Assumes nothing.
-use Prim.Native.Nat.{ℕ, ◌+◌, ◌*◌, ◌≤◌, ◌<◌}
+use Prim.Native.Nat.{◌+◌, ◌*◌, ◌≤◌, ◌<◌}
 use native.Mathlib.Omega.{arith}
 use mathlib.Core.Path.{◌≡◌, refl, sym, ap, ◌∙◌}
 use mathlib.Core.Logic.{⊎_elim}
-use mathlib.Core.List.{List}
-use mathlib.Core.Bool.{false}
 use lib.ListN.{length}
 use Rattle.answer.specs.Search.{any}
 use Rattle.directory.specs.Blocks.{slot_count, block_end}
 use Rattle.directory.specs.Slots.{clash, element_fault, rows}
 use Rattle.directory.specs.Rules.{Live}
 use Rattle.directory.specs.Links.{block_after, blocks_after}
-use Rattle.directory.specs.Steps.Gaps.{Placed}
 use Rattle.directory.specs.Steps.Keys.{Based}
 use Rattle.directory.specs.Steps.Doubts.{slot_at}
-use Rattle.directory.specs.declared.gap.Gap.{Gap}
 use Rattle.directory.proofs.Earlier
 use Rattle.directory.proofs.Keys
 use Rattle.directory.proofs.Checking

@@ -1,14 +1,8 @@
 -- `directory::check_slots` meets its contract. The invariant: what the slots of the blocks left answer is the answer. Assumes nothing.
-use Prim.Native.Nat.{ℕ, ◌≤◌, ◌<◌}
 use native.Mathlib.Omega.{arith}
 use mathlib.Core.Path.{◌≡◌, refl, sym, ◌∙◌}
-use mathlib.Core.List.{List}
 use Rattle.directory.specs.Blocks.{next_block}
-use Rattle.directory.specs.Links.{block_after}
 use Rattle.directory.specs.Steps.Chains.{InChain}
-use Rattle.directory.specs.Steps.Gaps.{Placed}
-use Rattle.directory.specs.Steps.Checks.{Reached}
-use Rattle.directory.specs.declared.Checked.{Checked}
 use Rattle.answer.proofs.Answer.{refusal_is}
 use Rattle.answer.proofs.Links.{link_none, length_links}
 use Rattle.directory.proofs.Gaps

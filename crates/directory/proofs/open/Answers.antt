@@ -3,7 +3,6 @@ use mathlib.Core.Path.{◌≡◌, sym, subst, ◌∙◌}
 use mathlib.Core.Bool.{true}
 use Rattle.directory.specs.Opening.{headed}
 use Rattle.directory.specs.Steps.Chains.{WalkedTo}
-use Rattle.directory.specs.declared.chain.Walked.TheVariants.{Whole}
 use Rattle.directory.proofs.Links
 use Rattle.directory.proofs.Opening
 use Rattle.directory.proofs.Opens

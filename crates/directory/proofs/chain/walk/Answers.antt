@@ -75,10 +75,10 @@ pub loop-left-preserved : goal.loop-left-preserved
 loop-left-preserved c =
     let r = c.read32-b.ensures in
     let misses : meets_block c.args.image.now c.chain.at (c.chain.at + 6 + 12 * c.read16-count.result) c.loop-left.b ≡ false =
-      elim c.if-b-end.branch [
-        | then-b-end+else-at-b w ↦ Blocks.past_block _ _ _ _ (rw w.read16.ensures.is at w.if-at-b.false)
-        | else-b-end w ↦ Blocks.before_block _ _ _ _ w.if-b-end.false
-      ] in
+    elim c.if-b-end.branch [
+      | then-b-end+else-at-b w ↦ Blocks.past_block _ _ _ _ (rw w.read16.ensures.is at w.if-at-b.false)
+      | else-b-end w ↦ Blocks.before_block _ _ _ _ w.if-b-end.false
+    ] in
     rw r.is (Links.follow_next _ _ _ _ _ c.loop-left.invariant c.loop-left-test.true misses (rw r.is at r.small))
 
 pub chain-preserved : goal.chain-preserved

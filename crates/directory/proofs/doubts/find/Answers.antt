@@ -1,7 +1,6 @@
 -- `directory::doubts::find` meets its contract. The invariant: the windows so far are noted, if they are marked. Assumes nothing.
 use native.Mathlib.Omega.{arith}
 use mathlib.Core.Path.{refl, sym, ◌∙◌}
-use mathlib.Core.Logic.{⊎_elim}
 use Rattle.directory.proofs.Doubting
 use Rattle.directory.proofs.doubts.find.Goals as goal
 use Rattle.directory.proofs.doubts.find.Goals.{then-is_set, else-is_set}

@@ -1,7 +1,6 @@
 -- `directory::listing::put_descriptors` meets its contract. The invariant: what is still to be filled in gives the whole. Assumes nothing.
 use native.Mathlib.Omega.{arith}
 use mathlib.Core.Path.{◌≡◌, refl, sym, ap, ◌∙◌}
-use mathlib.Core.Logic.{⊎_elim}
 use lib.ListN.{length}
 use Rattle.directory.proofs.Cursors
 use Rattle.directory.proofs.Descriptors

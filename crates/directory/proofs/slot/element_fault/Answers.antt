@@ -3,7 +3,6 @@ use Prim.Native.Nat.{ℕ, ◌+◌}
 use native.Mathlib.Omega.{arith}
 use mathlib.Core.Path.{◌≡◌, sym, ap, ◌∙◌}
 use mathlib.Core.Bool.{not}
-use borrow.Author.Rules.{rules}
 use Rattle.answer.specs.Search.{must}
 use Rattle.directory.specs.Blocks.{on_directory}
 use Rattle.directory.specs.Slots.{tag_at, base_tag, element_fault}

@@ -14,8 +14,7 @@ pub reference_in-table-requires : goal.reference_in-table-requires
 reference_in-table-requires c = (c.requires.0, c.loop-left.invariant.1)
 
 pub loop-left-preserved : goal.loop-left-preserved
-loop-left-preserved c =
-    (
+loop-left-preserved c = (
   rw c.reference_in-table.ensures.0 (sym (Links.along_next _ _ _ _ c.loop-left-test.true (ne_eqb _ _ c.if-reference-table.false)) ∙ c.loop-left.invariant.0),
   c.reference_in-table.ensures.1,
 )

@@ -12,8 +12,7 @@ pub reach-first-requires : goal.reach-first-requires
 reach-first-requires c = (c.requires.0, c.reference_in-reference.ensures.1, suc-ne-zero 24, suc-ne-zero 25)
 
 pub returns : goal.returns
-returns c =
-    (
+returns c = (
   Tables.looked_length _ _ _ _ _ c.reach-first.ensures.0 ∙ sym (Descriptions.first_own _ _ _ _ c.reference_in-reference.ensures.0 c.if-reference-eq0.false),
   c.reach-first.ensures.1,
 )

@@ -43,15 +43,13 @@ pub shape_of-out-then-link-ne0 : goal.shape_of-out-then-link-ne0
 shape_of-out-then-link-ne0 c = c.loop-left.invariant.0.long
 
 pub returns-then-link-ne0 : goal.returns-then-link-ne0
-returns-then-link-ne0 c =
-    (
+returns-then-link-ne0 c = (
   rw c.stopped.ensures (Steps.followed_fault _ _ _ _ _ _ _ _ _ c.loop-left.invariant.0 (missed (goal.at.returns-then-link-ne0 c).In-loop-left) _ c.reach_table-link.ensures.0.fault_is c.if-link-ne0.true),
   c.reach_table-link.ensures.1,
 )
 
 pub take_blocks-taken-requires : goal.take_blocks-taken-requires
-take_blocks-taken-requires c =
-    (
+take_blocks-taken-requires c = (
   c.requires.0,
   c.reach_table-link.ensures.1,
   c.requires.2,
@@ -62,8 +60,7 @@ pub shape_of-out-then-taken-ne0 : goal.shape_of-out-then-taken-ne0
 shape_of-out-then-taken-ne0 c = ap length (took (goal.at.shape_of-out-then-taken-ne0 c).After-take_blocks-taken).leaves ∙ Numbers.length_put _ _ _ ∙ c.loop-left.invariant.0.long
 
 pub returns-then-taken-ne0 : goal.returns-then-taken-ne0
-returns-then-taken-ne0 c =
-    (
+returns-then-taken-ne0 c = (
   Steps.followed_broken _ _ _ _ _ _ _ _ _ c.loop-left.invariant.0 (missed (goal.at.returns-then-taken-ne0 c).In-loop-left) (sound (goal.at.returns-then-taken-ne0 c).Else-link-ne0) _ _ (took (goal.at.returns-then-taken-ne0 c).After-take_blocks-taken) c.if-taken-ne0.true,
   c.take_blocks-taken.ensures.1,
 )
@@ -81,8 +78,7 @@ pub loop-left-smaller : goal.loop-left-smaller
 loop-left-smaller c = omega (arith, more (goal.at.loop-left-smaller c).Else-link-ne0)
 
 pub loop-left-preserved : goal.loop-left-preserved
-loop-left-preserved c =
-    (
+loop-left-preserved c = (
   rw (c.read16-reference.ensures.is ∙ ap (λ t. be 2 t 0) (bytes (goal.at.loop-left-preserved c).After-part-table), c.set.ensures, c.mark_of.ensures)
       (Steps.following_next _ _ _ _ _ _ _ _ _ c.loop-left.invariant.0 (missed (goal.at.loop-left-preserved c).In-loop-left) (sound (goal.at.loop-left-preserved c).Else-link-ne0) _ _ (took (goal.at.loop-left-preserved c).After-take_blocks-taken) c.if-taken-ne0.false c.requires.2.entries),
   c.take_blocks-taken.ensures.1,

@@ -25,15 +25,13 @@ there : (c : Else-not-is_plain) → let a = c.args in let p = c.find_linked-foun
 there c = Tables.linked_there _ _ _ _ _ c.requires.0.sound _ refl ((Tables.sought_slot _ _ c.if-reference-eq0.false _ c.find_linked-found.ensures.0 c.if-found-eq0.false) ∙ (plain c).1)
 
 pub returns-then-reference-eq0 : goal.returns-then-reference-eq0
-returns-then-reference-eq0 c =
-    (
+returns-then-reference-eq0 c = (
   Tables.looked_broken _ _ _ _ _ _ c.broken.ensures (Tables.link_absent _ _ _ _ _ (ap is_there (Tables.linked_zero _ _ c.if-reference-eq0.true))) c.requires.2,
   c.requires.1,
 )
 
 pub returns-then-found-eq0 : goal.returns-then-found-eq0
-returns-then-found-eq0 c =
-    (
+returns-then-found-eq0 c = (
   Tables.looked_broken _ _ _ _ _ _ c.broken-then-found-eq0.ensures (Tables.link_absent _ _ _ _ _ (Tables.sought_none _ _ c.if-reference-eq0.false _ c.find_linked-found.ensures.0 c.if-found-eq0.true)) c.requires.2,
   c.find_linked-found.ensures.1,
 )
@@ -42,8 +40,7 @@ pub is_plain-requires : goal.is_plain-requires
 is_plain-requires c = omega (arith, c.find_linked-found.ensures.0.stands.bounded.low)
 
 pub returns-then-not-is_plain : goal.returns-then-not-is_plain
-returns-then-not-is_plain c =
-    (
+returns-then-not-is_plain c = (
   Tables.looked_broken _ _ _ _ _ _ c.broken-then-not-is_plain.ensures (Tables.link_absent _ _ _ _ _ (ap is_there (slot (goal.at.returns-then-not-is_plain c).After-is_plain) ∙ sym c.is_plain.ensures ∙ c.if-not-is_plain.true)) c.requires.2,
   c.find_linked-found.ensures.1,
 )
@@ -52,8 +49,7 @@ pub size-length-requires : goal.size-length-requires
 size-length-requires c = (omega (arith, c.find_linked-found.ensures.0.stands.bounded.low), (plain c).0)
 
 pub returns-then-length-needed : goal.returns-then-length-needed
-returns-then-length-needed c =
-    (
+returns-then-length-needed c = (
   Tables.looked_broken _ _ _ _ _ _ c.broken-then-length-needed.ensures (Tables.link_short _ _ _ _ _ _ _ (there (goal.at.returns-then-length-needed c).Else-not-is_plain) (rw c.size-length.ensures at c.if-length-needed.true)) c.requires.3,
   c.find_linked-found.ensures.1,
 )

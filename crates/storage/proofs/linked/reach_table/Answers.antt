@@ -12,8 +12,7 @@ pub seen-requires : goal.seen-requires
 seen-requires c = (c.requires.0, c.requires.1, c.requires.3)
 
 pub returns-then-seen : goal.returns-then-seen
-returns-then-seen c =
-    (
+returns-then-seen c = (
   Tables.looked_broken _ _ _ _ _ _ c.broken-then-seen.ensures (Tables.next_twice _ _ _ _ c.if-count-eq-MOST_TABLES.false (sym c.seen.ensures.0 ∙ c.if-seen.true)) (suc-ne-zero 26),
   c.seen.ensures.1,
 )

@@ -23,8 +23,7 @@ returns-then-block-ne0 c =
     (Tables.gave_none _ _ _ _ _ _ (written (goal.at.returns-then-block-ne0 c).Else-never_written) _ c.reach-block.ensures.0 c.if-block-ne0.true, c.reach-block.ensures.1)
 
 pub returns : goal.returns
-returns c =
-    (
+returns c = (
   Tables.gave_bytes _ _ _ _ _ _ (written (goal.at.returns c).Else-never_written) _ c.reach-block.ensures.0 c.if-block-ne0.false _ (c.write_bytes.ensures ∙ ap (put _ _) c.part.ensures),
   c.reach-block.ensures.1,
 )

@@ -1,5 +1,4 @@
 -- `vdata::column::put_values` meets its contract. Assumes nothing.
-use mathlib.Core.Path.{◌≡◌}
 use Rattle.wire.specs.declared.ByteOrder.TheVariants.{BigEndian, LittleEndian}
 use native.Mathlib.Omega.{arith}
 use Rattle.vdata.proofs.Columns

@@ -1,7 +1,6 @@
 -- `vhead::head::rows_fault` meets its contract. The invariant: judging the rows that are left gives the whole. Assumes nothing.
 use native.Mathlib.Omega.{arith}
 use mathlib.Core.Path.{◌∙◌}
-use Rattle.vhead.specs.Heads.{row_at}
 use Rattle.vhead.proofs.HeadsJudged
 use Rattle.vhead.proofs.head.rows_fault.Goals as goal
 

@@ -23,10 +23,10 @@ overflow_add-end-in-loop-i c = omega (arith, c.read16.ensures.small)
 pub loop-i-preserved : goal.loop-i-preserved
 loop-i-preserved c =
     let l = c.loop-i-test.true in (
-  omega arith,
-  next c.args.part.now c.args.count c.loop-i.i c.loop-i.end _ c.read16.ensures.is l ∙ c.loop-i.invariant.1,
-  omega (arith, c.read16.ensures.small),
-)
+      omega arith,
+      next c.args.part.now c.args.count c.loop-i.i c.loop-i.end _ c.read16.ensures.is l ∙ c.loop-i.invariant.1,
+      omega (arith, c.read16.ensures.small),
+    )
 
 pub returns : goal.returns
 returns c = (Tails.names_done _ _ _ _ c.loop-i-test.false ∙ c.loop-i.invariant.1, omega arith)
