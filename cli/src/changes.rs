@@ -101,13 +101,7 @@ fn amount(bytes: Amount) -> String {
     }
 }
 
-/// How many bytes an element of an image has; none where it is not there either.
-pub fn amount_in(image: &[u8], (tag, reference): Pair) -> Amount {
-    let elements = hdf4::list(image).unwrap_or_default();
-    let is_meant = |element: &&Element| pair_of(element) == (base_tag(tag), reference);
-    elements.iter().find(is_meant).and_then(|element| amount_of(image, element))
-}
-
+/// How many bytes an element of an image has; none where it is not stored.
 fn amount_of(image: &[u8], element: &Element) -> Amount {
     let stored = || u64::from(element.length);
     element.is_stored().then(|| own_length(image, element).unwrap_or_else(stored))

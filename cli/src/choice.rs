@@ -1,16 +1,15 @@
-//! Which array or image a word means: a reference, tag and reference, or a name. Where two could be meant it is said which one was
-//! taken.
+//! Which array or image is meant: by a reference, by tag and reference, or by a name. Where two could be meant a note says which one
+//! was taken.
 
 use crate::datasets::{Catalog, Dataset, Kind, ARRAY, IMAGE};
 use crate::fault::Fault;
-use crate::print::tell;
 use crate::text::{first_of, quoted, refusal, shown};
-use crate::words::{is_number, number, slashed, Given, Pair, Words};
+use crate::words::{number, slashed, Given, Pair, Words};
 use hdf4::Rule;
 use std::ffi::OsStr;
 use std::os::unix::ffi::OsStrExt;
 
-/// What a word names an array or an image by.
+/// What an array or an image is named by.
 pub enum Wanted<'a> {
     Reference(u16),
     Pair(Given, &'a OsStr),
@@ -18,12 +17,12 @@ pub enum Wanted<'a> {
 }
 
 impl Wanted<'_> {
-    /// A number is a reference, numbers with a slash are tag and reference, any other word is a name.
+    /// A number is a reference; with a slash between them a word has tag and reference.
     pub fn new(word: &OsStr) -> Result<Wanted<'_>, Fault> {
-        if is_number(word) {
-            return number(word).map(Wanted::Reference);
+        match slashed(word) {
+            Some(given) => Ok(Wanted::Pair(given, word)),
+            None => number(word).map(Wanted::Reference),
         }
-        Ok(slashed(word).map_or(Wanted::Name(word), |given| Wanted::Pair(given, word)))
     }
 }
 
@@ -36,8 +35,11 @@ pub fn kinds(words: &Words) -> Vec<&'static Kind> {
     }
 }
 
+/// An array or an image, and a note where others could be meant.
+pub type Found<'a> = (&'a Dataset, Option<String>);
+
 /// The one array or image, of the kinds that are looked for, that is wanted.
-pub fn find<'a>(catalog: &'a Catalog, kinds: &[&'static Kind], wanted: &Wanted) -> Result<&'a Dataset, Fault> {
+pub fn find<'a>(catalog: &'a Catalog, kinds: &[&'static Kind], wanted: &Wanted) -> Result<Found<'a>, Fault> {
     let among: Vec<&Dataset> = catalog.datasets.iter().filter(|dataset| kinds.contains(&dataset.kind)).collect();
     let search = Search { catalog, kinds, among };
     match wanted {
@@ -54,34 +56,32 @@ struct Search<'a, 'b> {
 }
 
 impl<'a> Search<'a, '_> {
-    fn by_pair(&self, given: &Given, word: &OsStr) -> Result<&'a Dataset, Fault> {
+    fn by_pair(&self, given: &Given, word: &OsStr) -> Result<Found<'a>, Fault> {
         let pair = given.in_image(&self.catalog.file.bytes).0;
         let found: Vec<&Dataset> = self.among.iter().copied().filter(|dataset| dataset.pairs().any(|own| own == pair)).collect();
         self.described_once(pair, &found)?;
-        let none = |_| self.none(format!("{} gives no {} with its dimensions", shown(word), self.sought()));
-        // A name may look like this too.
-        found.first().map_or_else(|| self.by_name(word).map_err(none), |dataset| Ok(*dataset))
+        let none = || self.none(format!("{} gives no {} with its dimensions", shown(word), self.sought()));
+        found.first().map(|dataset| (*dataset, None)).ok_or_else(none)
     }
 
     /// The array or image that a name means: the first, as for libhdf4.
-    fn by_name(&self, name: &OsStr) -> Result<&'a Dataset, Fault> {
+    fn by_name(&self, name: &OsStr) -> Result<Found<'a>, Fault> {
         let named = |dataset: &&&Dataset| dataset.name.as_deref() == Some(name.as_bytes());
         let found: Vec<&Dataset> = self.among.iter().filter(named).copied().collect();
         let name = quoted(name.as_bytes());
         match found[..] {
             [] => Err(self.none(format!("there is no {} named {name}", self.sought()))),
-            [dataset] => Ok(dataset),
+            [dataset] => Ok((dataset, None)),
             [dataset, ref others @ ..] => {
                 let taken = word_of(dataset).unwrap_or_default();
                 let others = first_of(others.iter().filter_map(|other| word_of(other)));
-                self.say(format!("{} grids are named {name}, and {taken} was taken; others: {others}", found.len()));
-                Ok(dataset)
+                Ok((dataset, Some(format!("{} grids are named {name}, and {taken} was taken; others: {others}", found.len()))))
             }
         }
     }
 
     /// The array or image that a reference means: that of its data, of a group, or else of a Vgroup.
-    fn by_reference(&self, reference: u16) -> Result<&'a Dataset, Fault> {
+    fn by_reference(&self, reference: u16) -> Result<Found<'a>, Fault> {
         let mut found = Vec::new();
         for kind in self.kinds {
             found.extend(self.of_data(kind, reference)?.or_else(|| self.of_group(kind, reference)));
@@ -100,15 +100,14 @@ impl<'a> Search<'a, '_> {
         };
         let none = || self.none(format!("reference {reference} gives no {} with its dimensions", self.sought()));
         let dataset = dataset.ok_or_else(none)?;
-        self.say_others(reference, dataset);
-        Ok(dataset)
+        Ok((dataset, self.others(reference, dataset)))
     }
 
     fn of_data(&self, kind: &Kind, reference: u16) -> Result<Option<&'a Dataset>, Fault> {
-        let of_kind = || self.among.iter().copied().filter(|dataset| dataset.kind == kind);
-        let data = of_kind().filter_map(|dataset| dataset.data).find(|data| data.1 == reference);
-        let found: Vec<&Dataset> = of_kind().filter(|dataset| data.is_some() && dataset.data == data).collect();
-        self.described_once(data.unwrap_or_default(), &found)?;
+        let mut pairs = kind.data.iter().map(|tag| (*tag, reference));
+        let Some(data) = pairs.find(|pair| self.catalog.element(*pair).is_some()) else { return Ok(None) };
+        let found: Vec<&Dataset> = self.among.iter().copied().filter(|dataset| dataset.data == Some(data)).collect();
+        self.described_once(data, &found)?;
         Ok(found.first().copied())
     }
 
@@ -124,18 +123,18 @@ impl<'a> Search<'a, '_> {
         Err(Fault::Use(format!("{}: {why}; give the reference of a group", self.catalog.file.name)))
     }
 
-    /// By the groups of the newer tag first.
+    /// The first that a group names; by the groups of the newer tag first, and by those that name data.
     fn of_group(&self, kind: &Kind, reference: u16) -> Option<&'a Dataset> {
-        let named = |tag: &u16| self.among.iter().copied().find(|dataset| dataset.groups.contains(&(*tag, reference)));
-        kind.groups.iter().find_map(named)
+        let named = || kind.groups.iter().filter_map(|tag| self.catalog.first_of((*tag, reference)));
+        named().find(|dataset| dataset.data.is_some()).or_else(|| named().next())
     }
 
     fn of_vgroup(&self, reference: u16) -> Option<&'a Dataset> {
         self.among.iter().copied().find(|dataset| dataset.vgroup == Some(reference))
     }
 
-    /// Says which one was taken, where a reference could mean another, or is the name of another.
-    fn say_others(&self, reference: u16, taken: &Dataset) {
+    /// Which one was taken, where a reference could mean another, or is the name of another.
+    fn others(&self, reference: u16, taken: &Dataset) -> Option<String> {
         let name = reference.to_string();
         let way = |dataset: &Dataset| match dataset.pairs().find(|pair| pair.1 == reference) {
             Some((tag, reference)) => Some(format!("{tag}/{reference}")),
@@ -143,17 +142,11 @@ impl<'a> Search<'a, '_> {
         };
         let others = self.among.iter().filter(|other| !std::ptr::eq(**other, taken));
         let told = first_of(others.filter_map(|other| Some(format!("{} is {}", way(other)?, other.title()))));
-        if !told.is_empty() {
-            self.say(format!("reference {reference} was taken for {}; {told}", taken.title()));
-        }
-    }
-
-    fn say(&self, what: String) {
-        tell(format_args!("{}: {what}", self.catalog.file.name));
+        (!told.is_empty()).then(|| format!("reference {reference} was taken for {}; {told}", taken.title()))
     }
 
     fn none(&self, why: String) -> Fault {
-        self.catalog.file.refused_as(refusal(Rule::Absent, why, 0))
+        self.catalog.file.refused(refusal(Rule::Absent, why, 0))
     }
 
     /// `array and no image`, behind `no`.

@@ -18,7 +18,7 @@ use std::collections::HashMap;
 #[derive(PartialEq)]
 pub struct Kind {
     pub name: &'static str,
-    data: &'static [u16],
+    pub data: &'static [u16],
     pub dimensions: u16,
     pub groups: &'static [u16],
     class: &'static [u8],
@@ -98,6 +98,11 @@ impl Catalog<'_> {
     /// An element, if it is there.
     pub fn element(&self, pair: Pair) -> Option<&Element> {
         self.present.get(&pair)
+    }
+
+    /// The first array or image that has a pair as its data, or that a group with that pair names.
+    pub fn first_of(&self, pair: Pair) -> Option<&Dataset> {
+        self.by_pair.get(&pair).map(|index| &self.datasets[*index])
     }
 
     fn has(&self, pair: Pair) -> bool {

@@ -1,7 +1,6 @@
 //! The desk that edits, and what is said where the newest edit is another desk's.
 
 use crate::fault::Fault;
-use crate::reasons;
 use crate::text::refusal;
 use crate::words::{long_number, Words};
 use hdf4::{Error, Rule};
@@ -48,14 +47,10 @@ pub fn named(words: &Words) -> Result<u32, Fault> {
     }
 }
 
-/// Why the newest edit of an image is not undone for a desk. Where it is another desk's, it is said whose, and what can be done.
+/// Why the newest edit of an image is not undone for a desk. Where it is another desk's, it is said whose.
 pub fn not_undone(e: Error, image: &[u8], desk: u32) -> String {
     match hdf4::newest_desk(image).filter(|_| e.rule == Rule::OtherDesk) {
-        Some(newest) => {
-            let whose = format_args!("the newest edit is desk {newest}'s, and this is desk {desk}");
-            let way = format_args!("desk {newest} undoes it first, or edit over it; hdf4 edits shows all edits");
-            format!("{}; {way}", refusal(e.rule, whose, e.place))
-        }
-        None => reasons::told(image, e),
+        Some(newest) => refusal(e.rule, format_args!("the newest edit is desk {newest}'s, and this is desk {desk}"), e.place),
+        None => e.to_string(),
     }
 }

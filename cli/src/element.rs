@@ -2,7 +2,7 @@
 
 use crate::fault::Fault;
 use crate::input::{self, Input};
-use crate::output::{Lines, Out};
+use crate::output::Lines;
 use crate::print::{tell, Print};
 use crate::words::{long_number, Given, Pair, Words};
 use crate::{links, miscounted, output};
@@ -20,13 +20,12 @@ pub fn read(words: &Words, print: &mut Print) -> Result<(), Fault> {
         [path, tag, reference, out] => (path, tag, reference, Some(out)),
         _ => return Err(miscounted("read")),
     };
-    let out = Out { word: out, force: words.has("--force") };
     let given = Given::new(tag, reference)?;
     let most = most_bytes(words)?;
     let file = input::read(path)?;
     let (pair, note) = given.in_image(&file.bytes);
-    note.iter().for_each(|note| tell(format_args!("{}: {note}", file.name)));
     let bytes = element(&file, pair, most)?;
+    note.iter().for_each(|note| tell(format_args!("{}: {note}", file.name)));
     if words.has("--hex") {
         return output::put_lines(out, &file, print, |lines| hex(&bytes, lines));
     }
@@ -53,13 +52,13 @@ fn linked(file: &Input, (tag, reference): Pair, most: Option<usize>) -> Result<V
     let size = hdf4::size(&file.bytes, tag, reference).map_err(|e| file.refused(e))?;
     if size > most.unwrap_or(MOST_ROOM.max(file.bytes.len())) {
         let small = Error { rule: Rule::Small, place: 0 };
-        return Err(file.refused_as(format_args!("{small}; the element has {size} bytes, see --most")));
+        return Err(file.refused(format_args!("{small}; the element has {size} bytes, see --most")));
     }
     let mut bytes = Vec::new();
     input::reserve(&file.name, &mut bytes, size)?;
     bytes.resize(size, 0);
     let copied = hdf4::copy(&file.bytes, tag, reference, &mut bytes);
-    copied.map_err(|e| file.refused_as(links::told(file, (tag, reference), e)))?;
+    copied.map_err(|e| file.refused(links::told(file, (tag, reference), e)))?;
     Ok(bytes)
 }
 

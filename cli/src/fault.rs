@@ -12,7 +12,7 @@ pub enum Fault {
     System(String),
     /// What was to be printed could not be.
     Unprinted(io::Error),
-    /// Those of several files, and the status.
+    /// Those of several parts of a file, and the status.
     Several(u8, Vec<String>),
 }
 
@@ -27,7 +27,7 @@ impl Fault {
         Fault::System(format!("{about}: {said}"))
     }
 
-    /// The faults of several files as one: every message, and the status of the first.
+    /// Several faults as one: every message, and the status of the first.
     pub fn all(faults: Vec<Fault>) -> Result<(), Fault> {
         let mut faults = faults.into_iter();
         let Some(first) = faults.next() else { return Ok(()) };

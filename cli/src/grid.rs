@@ -6,8 +6,8 @@ use crate::element::{element, most_bytes};
 use crate::fault::Fault;
 use crate::input::{self, Input};
 use crate::numbers::Numbers;
-use crate::output::{self, Lines, Out};
-use crate::print::Print;
+use crate::output::{self, Lines};
+use crate::print::{tell, Print};
 use crate::shape::{Form, Interlace, Shape};
 use crate::text::refusal;
 use crate::words::{long_number, Words};
@@ -23,7 +23,6 @@ pub fn grid(words: &Words, print: &mut Print) -> Result<(), Fault> {
         (&[path, out], Some(name)) => (path, Wanted::Name(name), Some(out)),
         _ => return Err(miscounted("grid")),
     };
-    let out = Out { word: out, force: words.has("--force") };
     for [one, other] in [["--text", "--csv"], ["--text", "--pgm"], ["--csv", "--pgm"], ["--array", "--image"]] {
         if words.has(one) && words.has(other) {
             return Err(Fault::Use(format!("grid: {one} and {other} together; give one of them")));
@@ -33,9 +32,13 @@ pub fn grid(words: &Words, print: &mut Print) -> Result<(), Fault> {
         Limits { most: most_bytes(words)?, rows: words.value("--rows").map(|word| long_number("--rows", word)).transpose()? };
     let file = input::read(path)?;
     let catalog = Catalog::of(&file)?;
-    let grid = Grid::read(&file, choice::find(&catalog, &choice::kinds(words), &wanted)?, limits)?;
-    if words.has("--pgm") {
-        return output::put(out, &file, &pgm::picture(&grid)?, print);
+    let (dataset, note) = choice::find(&catalog, &choice::kinds(words), &wanted)?;
+    let grid = Grid::read(&file, dataset, limits)?;
+    let picture = words.has("--pgm").then(|| pgm::picture(&grid)).transpose()?;
+    // Where nothing is refused it is said what was taken.
+    note.iter().for_each(|note| tell(format_args!("{}: {note}", file.name)));
+    if let Some(picture) = picture {
+        return output::put(out, &file, &picture, print);
     }
     let marks = if words.has("--csv") { &COMMAS } else { &SPACES };
     output::put_lines(out, &file, print, |lines| grid.lines(marks, lines))
@@ -135,7 +138,7 @@ fn unpacked(file: &Input, dataset: &Dataset, shape: &Shape) -> Result<(), Fault>
         (Some(data), Some((tag, reference))) => {
             let why = format_args!("the image {}/{} is compressed, by {tag}/{reference}", data.0, data.1);
             let place = file.place_of((dataset.kind.dimensions, dataset.dimensions));
-            Err(file.refused_as(refusal(Rule::Storage, why, place)))
+            Err(file.refused(refusal(Rule::Storage, why, place)))
         }
         _ => Ok(()),
     }
@@ -150,40 +153,40 @@ fn data<'a>(file: &'a Input, dataset: &Dataset, shape: &Shape, most: Option<usiz
         }
         let (tag, reference) = dataset.pairs().next().unwrap_or_default();
         let why = format_args!("the {name} of group {tag}/{reference} has dimensions, and no data are stored");
-        return Err(file.refused_as(refusal(Rule::Absent, why, 0)));
+        return Err(file.refused(refusal(Rule::Absent, why, 0)));
     };
     match hdf4::view(&file.bytes, tag, reference) {
         Err(Error { rule: Rule::NotStored, .. }) if shape.has_none() => Ok(Cow::Borrowed(&[])),
         Err(Error { rule: Rule::NotStored, place }) => {
             let why = format_args!("the numbers of the {name} {tag}/{reference} are not stored yet");
-            Err(file.refused_as(refusal(Rule::NotStored, why, place)))
+            Err(file.refused(refusal(Rule::NotStored, why, place)))
         }
         _ => element(file, pair, most),
     }
 }
 
-/// How many rows data of so many bytes have: as many as the user says, if there are as many, or as data and dimensions say
-/// together. Planes of numbers, one after the other, have all their rows.
+/// How many rows are read of data of so many bytes: as many as the user says, or as dimensions and data say together. Data may have
+/// more, but for planes of numbers, one after the other, where the user says how many rows each has.
 fn rows_of(file: &Input, dataset: &Dataset, form: &Form, length: u64, wanted: Option<u32>) -> Result<u32, Fault> {
     let Form { shape, .. } = form;
     let Some(rows) = wanted else {
         let asking = || format!("its dimensions ask for {}", form.asked_by(shape.sizes[0]));
-        return form.rows_in(length, dataset.is_unlimited).ok_or_else(|| unfit(file, dataset, form, length, &asking()));
+        return form.rows_in(length, dataset.is_unlimited).ok_or_else(|| short(file, dataset, form, length, &asking()));
     };
     let is_by_plane = matches!(shape.interlace, Interlace::Plane) && shape.components > 1;
     let is_enough = |needed: u64| if is_by_plane { needed == length } else { needed <= length };
     if !form.bytes_of(rows).is_some_and(is_enough) {
-        return Err(unfit(file, dataset, form, length, &format!("--rows {rows} asks for {}", form.asked_by(rows))));
+        return Err(short(file, dataset, form, length, &format!("--rows {rows} asks for {}", form.asked_by(rows))));
     }
     Ok(rows)
 }
 
-/// Data whose bytes are not as many as is asked for.
-fn unfit(file: &Input, dataset: &Dataset, form: &Form, length: u64, asking: &str) -> Fault {
+/// Data with fewer bytes than are asked for. It is said for how many rows they are enough.
+fn short(file: &Input, dataset: &Dataset, form: &Form, length: u64, asking: &str) -> Fault {
     let pair @ (tag, reference) = dataset.data.unwrap_or_default();
     let why = format_args!("{tag}/{reference} has {length} bytes, and {asking}");
     let refusal = refusal(Rule::Record, why, file.place_of(pair));
     let most = form.bytes_of(1).and_then(|row| length.checked_div(row));
     let way = most.map_or(String::new(), |most| format!("; see --rows, the data are enough for {most}"));
-    file.refused_as(format_args!("{refusal}{way}"))
+    file.refused(format_args!("{refusal}{way}"))
 }

@@ -54,12 +54,12 @@ impl<'a> Row<'a> {
     fn fit(&mut self, length: Option<u64>) {
         let Some(form) = &mut self.form else { return };
         if form.shape.packing.is_some() && self.storage != Storage::NotStored {
-            self.storage = Storage::Packed("as an image");
+            self.storage = Storage::Packed;
         } else if let Some(length) = length {
-            match form.rows_in(length, self.dataset.is_unlimited) {
-                Some(rows) => form.shape.sizes[0] = rows,
-                None => self.misfit = Some(length),
+            if let Some(rows) = form.rows_in(length, self.dataset.is_unlimited) {
+                form.shape.sizes[0] = rows;
             }
+            self.misfit = Some(length).filter(|length| form.bytes_of(form.shape.sizes[0]) != Some(*length));
         }
     }
 

@@ -1,20 +1,18 @@
 //! The command that prints Vgroups.
 //!
 //! A group may be below thousands of others, so each is read once, and which of them can be listed is known before the first is
-//! printed: by the library's rules, 16 groups one within the other and 4,096 pairs. The refusals are the library's own. A group
-//! that cannot be read is refused under its own number, and those that have it within them are listed all the same.
+//! printed: by the library's rules, 16 groups one within the other and 4,096 pairs. The refusals are the library's own.
 
 use crate::fault::Fault;
-use crate::input::{self, Input};
-use crate::miscounted;
 use crate::print::Print;
 use crate::progress::Progress;
 use crate::sorted::Sorted;
-use crate::tags::{self, VGROUP};
-use crate::text::{quoted, refusal};
+use crate::tags::VGROUP;
+use crate::text::quoted;
 use crate::words::{number, Words};
-use hdf4::{Error, Pair, Rule, MOST_PAIRS};
-use std::collections::{HashMap, HashSet};
+use crate::{input, miscounted, tags};
+use hdf4::{Pair, MOST_PAIRS};
+use std::collections::HashMap;
 use std::ops::Range;
 
 const MOST_NESTED: usize = 16;
@@ -35,70 +33,36 @@ pub fn groups(words: &Words, print: &mut Print) -> Result<(), Fault> {
     let references: Vec<u16> = reference.map_or_else(|| all.collect(), |reference| vec![reference]);
     let sorted = Sorted::of(&file, |tag, _| tag == VGROUP)?;
     let groups = Groups::of(&file.name, &sorted)?;
-    let mut refused = Refused::default();
     let mut progress = Progress::of_printing("groups", references.len());
-    for (done, reference) in references.into_iter().enumerate() {
+    let (listed, refused): (Vec<u16>, Vec<u16>) = references.into_iter().partition(|reference| groups.is_listed(*reference));
+    for (done, reference) in listed.into_iter().enumerate() {
         progress.at(done);
-        if groups.is_listed(reference) {
-            groups.print(reference, print, &mut refused)?;
-        } else {
-            refused.note(reference);
-        }
+        groups.print(reference, print)?;
     }
     drop(progress);
-    if refused.references.is_empty() {
+    if refused.is_empty() {
         return Ok(());
     }
-    Err(Fault::Refused(refused.messages(&file, &sorted)))
+    Err(Fault::Refused(refusals(&file.name, &sorted, &refused)))
 }
 
-/// The groups that are refused, each once, in the order in which they came up.
-#[derive(Default)]
-struct Refused {
-    references: Vec<u16>,
-    seen: HashSet<u16>,
-}
-
-impl Refused {
-    fn note(&mut self, reference: u16) {
-        if self.seen.insert(reference) {
-            self.references.push(reference);
-        }
-    }
-
-    /// A line for each group, and one for those that are too many.
-    fn messages(&self, file: &Input, sorted: &Sorted) -> Vec<String> {
-        let name = &file.name;
-        let message = |reference: &u16| format!("{name}: Vgroup {reference}: {}", why(file, sorted, *reference));
-        let mut messages: Vec<String> = self.references.iter().take(MOST_MESSAGES).map(message).collect();
-        let more = self.references.len() - messages.len();
-        if more > 0 {
-            messages.push(format!("{name}: {more} more Vgroups are refused"));
-        }
-        messages
-    }
-}
-
-/// Why a group is refused: it cannot be read, or what is below it cannot be listed.
-fn why(file: &Input, sorted: &Sorted, reference: u16) -> String {
-    let image = &sorted.image;
-    let read = hdf4::read_group(image, reference).map(drop);
-    let e = match read.and_then(|()| hdf4::list_group(image, reference).map(drop)) {
-        Ok(()) => return "it cannot be listed".to_string(),
-        Err(e) => sorted.in_file(e),
+/// A line for each group that is refused, and one for those that are too many.
+fn refusals(name: &str, sorted: &Sorted, refused: &[u16]) -> Vec<String> {
+    let message = |reference: &u16| {
+        let refusal = hdf4::list_group(&sorted.image, *reference).err().map(|e| sorted.in_file(e).to_string());
+        format!("{name}: Vgroup {reference}: {}", refusal.unwrap_or("it cannot be listed".to_string()))
     };
-    match e {
-        Error { rule: Rule::Small, place } => {
-            refusal(e.rule, "below it are more than 4,096 pairs, and no more are listed", place)
-        }
-        e => file.told(e),
+    let mut messages: Vec<String> = refused.iter().take(MOST_MESSAGES).map(message).collect();
+    let more = refused.len() - messages.len();
+    if more > 0 {
+        messages.push(format!("{name}: {more} more Vgroups are refused"));
     }
+    messages
 }
 
 /// The groups of a file that can be read, and how far each reaches if it can be listed.
 struct Groups<'a> {
     image: &'a [u8],
-    read: HashSet<u16>,
     /// Where the members of each group stand in the list of all.
     members: HashMap<u16, Range<usize>>,
     all: Vec<Pair>,
@@ -114,12 +78,10 @@ struct Extent {
 
 impl Groups<'_> {
     fn of<'a>(name: &str, sorted: &'a Sorted) -> Result<Groups<'a>, Fault> {
-        let (read, members, extents) = (HashSet::new(), HashMap::new(), HashMap::new());
-        let mut groups = Groups { image: &sorted.image, read, members, all: Vec::new(), extents };
+        let mut groups = Groups { image: &sorted.image, members: HashMap::new(), all: Vec::new(), extents: HashMap::new() };
         for reference in sorted.references(VGROUP) {
             input::spare(name)?;
             let Ok(group) = hdf4::read_group(groups.image, reference) else { continue };
-            groups.read.insert(reference);
             // One with more members than are listed is refused, whatever they are.
             if group.members.len() <= MOST_PAIRS {
                 let start = groups.all.len();
@@ -139,30 +101,15 @@ impl Groups<'_> {
 
     /// Settles each group whose members are settled.
     fn settle(&mut self) {
-        let mut settled = Vec::new();
         for (reference, range) in &self.members {
             if self.extents.contains_key(reference) {
                 continue;
             }
-            let extent = self.extent(&self.all[range.clone()]);
-            let is_listed = |extent: &Extent| extent.nested <= MOST_NESTED && extent.pairs <= MOST_PAIRS;
-            settled.extend(extent.filter(is_listed).map(|extent| (*reference, extent)));
+            let extent = extent(&self.all[range.clone()], &self.extents);
+            if let Some(extent) = extent.filter(|extent| extent.nested <= MOST_NESTED && extent.pairs <= MOST_PAIRS) {
+                self.extents.insert(*reference, extent);
+            }
         }
-        self.extents.extend(settled);
-    }
-
-    /// How far a group with these members reaches, if each group among them is settled. Below one that cannot be read there is
-    /// nothing.
-    fn extent(&self, members: &[Pair]) -> Option<Extent> {
-        let mut extent = Extent { nested: 1, pairs: members.len() };
-        for member in members.iter().filter(|member| member.tag == VGROUP) {
-            let unread = Extent { nested: 1, pairs: 0 };
-            let is_read = self.read.contains(&member.reference);
-            let below = if is_read { self.extents.get(&member.reference)? } else { &unread };
-            extent.nested = extent.nested.max(1 + below.nested);
-            extent.pairs += below.pairs;
-        }
-        Some(extent)
     }
 
     fn is_listed(&self, reference: u16) -> bool {
@@ -170,25 +117,32 @@ impl Groups<'_> {
     }
 
     /// A group, and below it its members, those of a group within it further to the right.
-    fn print(&self, reference: u16, print: &mut Print, refused: &mut Refused) -> Result<(), Fault> {
+    fn print(&self, reference: u16, print: &mut Print) -> Result<(), Fault> {
         if let Ok(group) = hdf4::read_group(self.image, reference) {
             print.text(format_args!("ref {reference} class {} name {}\n", quoted(group.class), quoted(group.name)))?;
         }
-        self.print_members(reference, 1, print, refused)
+        self.print_members(reference, 1, print)
     }
 
-    fn print_members(&self, reference: u16, depth: usize, print: &mut Print, refused: &mut Refused) -> Result<(), Fault> {
+    fn print_members(&self, reference: u16, depth: usize, print: &mut Print) -> Result<(), Fault> {
         for pair in self.members_of(reference) {
-            let (tag, is_group) = (tags::named(pair.tag), pair.tag == VGROUP);
-            let is_read = !is_group || self.read.contains(&pair.reference);
-            let unread = if is_read { "" } else { " not read" };
-            print.text(format_args!("{:1$}tag {tag} ref {2}{unread}\n", "", 2 * depth, pair.reference))?;
-            if !is_read {
-                refused.note(pair.reference);
-            } else if is_group {
-                self.print_members(pair.reference, depth + 1, print, refused)?;
+            let tag = tags::named(pair.tag);
+            print.text(format_args!("{:1$}tag {tag} ref {2}\n", "", 2 * depth, pair.reference))?;
+            if pair.tag == VGROUP {
+                self.print_members(pair.reference, depth + 1, print)?;
             }
         }
         Ok(())
     }
+}
+
+/// How far a group reaches, if each group in it is settled.
+fn extent(members: &[Pair], settled: &HashMap<u16, Extent>) -> Option<Extent> {
+    let mut extent = Extent { nested: 1, pairs: members.len() };
+    for member in members.iter().filter(|member| member.tag == VGROUP) {
+        let below = settled.get(&member.reference)?;
+        extent.nested = extent.nested.max(1 + below.nested);
+        extent.pairs += below.pairs;
+    }
+    Some(extent)
 }

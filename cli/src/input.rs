@@ -3,7 +3,6 @@
 
 use crate::fault::Fault;
 use crate::progress::Progress;
-use crate::reasons;
 use crate::text::shown;
 use crate::words::Pair;
 use hdf4::{Error, Rule, MOST_BYTES};
@@ -16,13 +15,6 @@ use std::os::unix::fs::MetadataExt;
 
 /// How many bytes are read at a time.
 const PART: u64 = 1 << 24;
-
-/// How many are read before it is judged whether this is HDF4, and how many more of a file that is not, to say what it is.
-const FIRST: u64 = 8;
-const FIRST_OF_OTHERS: u64 = 1 << 16;
-
-/// The first bytes of every HDF4 file.
-pub const MAGIC: [u8; 4] = [0x0e, 0x03, 0x13, 0x01];
 
 /// More bytes than a command needs beside what it reserves.
 const SPARE: usize = 1 << 22;
@@ -37,13 +29,7 @@ pub struct Input {
 }
 
 impl Input {
-    /// A refusal by the library.
-    pub fn refused(&self, e: Error) -> Fault {
-        Fault::refused(&self.name, self.told(e))
-    }
-
-    /// A refusal in words of this program's own.
-    pub fn refused_as(&self, refusal: impl std::fmt::Display) -> Fault {
+    pub fn refused(&self, refusal: impl std::fmt::Display) -> Fault {
         Fault::refused(&self.name, refusal)
     }
 
@@ -51,20 +37,6 @@ impl Input {
     pub fn place_of(&self, (tag, reference): Pair) -> u64 {
         hdf4::find(&self.bytes, tag, reference).map_or(0, |place| place as u64)
     }
-
-    /// What is said where the library refuses.
-    pub fn told(&self, e: Error) -> String {
-        reasons::told(&self.bytes, e)
-    }
-}
-
-/// What a file is read for.
-#[derive(Clone, Copy, PartialEq)]
-enum Purpose {
-    /// As HDF4: what begins otherwise is not read on.
-    Image,
-    /// As bytes of any kind.
-    Data,
 }
 
 /// Which file this is, whatever its names are.
@@ -72,22 +44,13 @@ pub fn identity(about: &Metadata) -> (u64, u64) {
     (about.dev(), about.ino())
 }
 
-/// Reads an HDF4 file, or standard input for `-`.
+/// Reads a file, or standard input for `-`.
 pub fn read(word: &OsStr) -> Result<Input, Fault> {
-    read_for(Purpose::Image, word)
-}
-
-/// Reads a file of any bytes, or standard input for `-`.
-pub fn read_data(word: &OsStr) -> Result<Input, Fault> {
-    read_for(Purpose::Data, word)
-}
-
-fn read_for(purpose: Purpose, word: &OsStr) -> Result<Input, Fault> {
     if word == "-" {
         let name = "standard input".to_string();
         let identity = file_of(io::stdin());
         apart(&name, identity)?;
-        let bytes = all(&name, purpose, io::stdin().lock(), None, 0)?;
+        let bytes = all(&name, io::stdin().lock(), None, 0)?;
         return Ok(Input { name, bytes, identity });
     }
     let name = shown(word);
@@ -95,7 +58,7 @@ fn read_for(purpose: Purpose, word: &OsStr) -> Result<Input, Fault> {
     let about = file.metadata().map_err(|e| Fault::system(&name, e))?;
     let identity = Some(identity(&about));
     apart(&name, identity)?;
-    let bytes = all(&name, purpose, &file, length_of(&about), 0)?;
+    let bytes = of_file(&name, &file, &about, 0)?;
     Ok(Input { name, bytes, identity })
 }
 
@@ -113,27 +76,20 @@ fn file_of(stream: impl AsFd) -> Option<(u64, u64)> {
     File::from(open).metadata().ok().filter(Metadata::is_file).map(|about| identity(&about))
 }
 
-/// The bytes of an open HDF4 file, and room behind them that takes no second copy.
+/// The bytes of an open file, and room behind them that takes no second copy.
 pub fn of_file(name: &str, file: &File, about: &Metadata, room: usize) -> Result<Vec<u8>, Fault> {
-    all(name, Purpose::Image, file, length_of(about), room)
-}
-
-/// How long a file is, if it is one.
-fn length_of(about: &Metadata) -> Option<u64> {
-    about.is_file().then_some(about.len())
+    let length = about.is_file().then_some(about.len());
+    all(name, file, length, room)
 }
 
 /// All bytes to the end; of more than the library takes, no more than shows it.
-fn all(name: &str, purpose: Purpose, mut source: impl Read, length: Option<u64>, room: usize) -> Result<Vec<u8>, Fault> {
+fn all(name: &str, mut source: impl Read, length: Option<u64>, room: usize) -> Result<Vec<u8>, Fault> {
     if length.is_some_and(|length| length > MOST_BYTES as u64) {
         return Err(Fault::refused(name, Error { rule: Rule::TooLong, place: 0 }));
     }
     let length = length.map(|length| length as usize);
     let mut bytes = Vec::new();
     reserve(name, &mut bytes, length.unwrap_or(0) + room)?;
-    if purpose == Purpose::Image {
-        judge_first(name, &mut source, length.is_some(), &mut bytes)?;
-    }
     let mut progress = Progress::new(&format!("reading {name}"), length);
     while bytes.len() <= MOST_BYTES {
         if length.is_none() {
@@ -147,20 +103,6 @@ fn all(name: &str, purpose: Purpose, mut source: impl Read, length: Option<u64>,
     }
     spare(name)?;
     Ok(bytes)
-}
-
-/// Reads the first bytes, and refuses what is not HDF4 by them. Of a file more is read to say what it is; a pipe may have no more,
-/// and no end.
-fn judge_first(name: &str, source: &mut impl Read, is_file: bool, bytes: &mut Vec<u8>) -> Result<(), Fault> {
-    let told = |e: io::Error| Fault::system(name, e);
-    source.by_ref().take(FIRST).read_to_end(bytes).map_err(told)?;
-    if bytes.is_empty() || bytes.starts_with(&MAGIC) {
-        return Ok(());
-    }
-    if is_file {
-        source.by_ref().take(FIRST_OF_OTHERS).read_to_end(bytes).map_err(told)?;
-    }
-    Err(Fault::refused(name, reasons::told(bytes, Error { rule: Rule::NotHdf, place: 0 })))
 }
 
 /// Sees to it that there is memory for what is small.

@@ -2,7 +2,7 @@
 
 use crate::fault::Fault;
 use crate::print::Print;
-use std::fmt::Display;
+use std::fmt::{Display, Write};
 
 /// Writes one value, with commas where they belong. Who calls sees to it that what is opened is closed.
 pub struct Json<'a> {
@@ -38,13 +38,6 @@ impl<'a> Json<'a> {
     /// Bytes as text: each is the character with its number as code point.
     pub fn text(&mut self, bytes: &[u8]) -> Result<(), Fault> {
         self.part(format_args!("\"{}\"", escaped(bytes)), true)
-    }
-
-    /// Characters with their name.
-    pub fn string_entry(&mut self, name: &str, text: &str) -> Result<(), Fault> {
-        self.key(name)?;
-        let escaped: String = text.encode_utf16().map(character).collect();
-        self.part(format_args!("\"{escaped}\""), true)
     }
 
     /// A plain value with its name.
@@ -92,22 +85,22 @@ impl<'a> Json<'a> {
     }
 }
 
-/// The inside of a JSON string, in ASCII: each byte as the character with its number.
+/// The inside of a JSON string, in ASCII.
 fn escaped(bytes: &[u8]) -> String {
-    bytes.iter().map(|byte| character((*byte).into())).collect()
-}
-
-/// A character of a JSON string, or one half of it, by its number.
-fn character(number: u16) -> String {
-    match u8::try_from(number) {
-        Ok(b'"') => "\\\"".to_string(),
-        Ok(b'\\') => "\\\\".to_string(),
-        Ok(b'\n') => "\\n".to_string(),
-        Ok(b'\r') => "\\r".to_string(),
-        Ok(b'\t') => "\\t".to_string(),
-        Ok(byte @ b' '..=b'~') => char::from(byte).to_string(),
-        _ => format!("\\u{number:04x}"),
+    let mut text = String::new();
+    for byte in bytes {
+        match byte {
+            b'"' => text += "\\\"",
+            b'\\' => text += "\\\\",
+            b'\n' => text += "\\n",
+            b'\r' => text += "\\r",
+            b'\t' => text += "\\t",
+            b' '..=b'~' => text.push(char::from(*byte)),
+            // Writing to a string never fails.
+            _ => drop(write!(text, "\\u{byte:04x}")),
+        }
     }
+    text
 }
 
 #[cfg(test)]

@@ -11,19 +11,16 @@ mod fault;
 mod grid;
 mod grids;
 mod groups;
-mod help;
 mod history;
 mod input;
 mod json;
 mod links;
 mod list;
-mod newer;
 mod numbers;
 mod output;
 mod pgm;
 mod print;
 mod progress;
-mod reasons;
 mod shape;
 mod sorted;
 mod storage;
@@ -44,6 +41,8 @@ use std::process::ExitCode;
 use text::shown;
 use words::{Choice, Words};
 
+const HELP: &str = include_str!("help.txt");
+
 const JSON: Choice = Choice { name: "--json", has_value: false };
 const HEX: Choice = Choice { name: "--hex", has_value: false };
 const MOST: Choice = Choice { name: "--most", has_value: true };
@@ -54,7 +53,6 @@ const PGM: Choice = Choice { name: "--pgm", has_value: false };
 const ARRAY: Choice = Choice { name: "--array", has_value: false };
 const IMAGE: Choice = Choice { name: "--image", has_value: false };
 const ROWS: Choice = Choice { name: "--rows", has_value: true };
-const FORCE: Choice = Choice { name: "--force", has_value: false };
 const ALLOW_ZERO: Choice = Choice { name: "--allow-zero", has_value: false };
 const DESK: Choice = Choice { name: desk::OPTION, has_value: true };
 
@@ -67,11 +65,11 @@ struct Command {
 
 const COMMANDS: [Command; 11] = [
     Command { name: "list", choices: &[JSON], run: list::list },
-    Command { name: "read", choices: &[HEX, MOST, FORCE], run: element::read },
+    Command { name: "read", choices: &[HEX, MOST], run: element::read },
     Command { name: "groups", choices: &[], run: groups::groups },
-    Command { name: "values", choices: &[JSON, NAME, MOST], run: values::values },
+    Command { name: "values", choices: &[JSON, NAME], run: values::values },
     Command { name: "grids", choices: &[JSON], run: grids::grids },
-    Command { name: "grid", choices: &[TEXT, CSV, PGM, ARRAY, IMAGE, NAME, ROWS, MOST, FORCE], run: grid::grid },
+    Command { name: "grid", choices: &[TEXT, CSV, PGM, ARRAY, IMAGE, NAME, ROWS, MOST], run: grid::grid },
     Command { name: "edits", choices: &[JSON], run: history::edits },
     Command { name: "add", choices: &[ALLOW_ZERO, DESK], run: edit::add },
     Command { name: "replace", choices: &[DESK], run: edit::replace },
@@ -81,21 +79,23 @@ const COMMANDS: [Command; 11] = [
 
 /// Does what the words say.
 fn run(mut words: Vec<OsString>, print: &mut Print) -> Result<(), Fault> {
+    if words.iter().take_while(|word| *word != "--").any(|word| is(word, &["--help", "-h"])) {
+        return print.bytes(HELP.as_bytes());
+    }
     let desk = desk::before_command(&mut words);
     if words.is_empty() {
         return Err(Fault::Use("a command is missing; hdf4 help names them".to_string()));
     }
     let name = words.remove(0);
-    if is(&name, &["help", "--help", "-h"]) {
-        return help::print(words.first().map(OsString::as_os_str), print);
+    if is(&name, &["help"]) {
+        return print.bytes(HELP.as_bytes());
     }
     if is(&name, &["--version", "-V"]) {
         return print.text(format_args!("hdf4 {}\n", env!("CARGO_PKG_VERSION")));
     }
-    let command = command(&name)?;
-    if words.iter().take_while(|word| *word != "--").any(|word| is(word, &["--help", "-h"])) {
-        return help::print(Some(&name), print);
-    }
+    let Some(command) = COMMANDS.iter().find(|command| name == command.name) else {
+        return Err(Fault::Use(format!("{}: no such command; hdf4 help names them", shown(name))));
+    };
     let words = Words::new([desk, words].concat(), command.choices).map_err(|fault| named(command.name, fault))?;
     (command.run)(&words, print)
 }
@@ -104,17 +104,18 @@ fn is(word: &OsStr, names: &[&str]) -> bool {
     names.iter().any(|name| word == *name)
 }
 
-fn command(name: &OsStr) -> Result<&'static Command, Fault> {
-    let unknown = || Fault::Use(format!("{}: no such command; hdf4 help names them", shown(name)));
-    COMMANDS.iter().find(|command| name == command.name).ok_or_else(unknown)
-}
-
 /// Wrong use of a command, with the line that shows its use.
 fn named(command: &str, fault: Fault) -> Fault {
     match fault {
-        Fault::Use(message) => Fault::Use(format!("{command}: {message}; usage: {}", help::usage(command))),
+        Fault::Use(message) => Fault::Use(format!("{command}: {message}; usage: {}", usage(command))),
         fault => fault,
     }
+}
+
+/// How a command is used.
+fn usage(command: &str) -> &'static str {
+    let shows = |line: &&str| line.split_whitespace().nth(1) == Some(command);
+    HELP.lines().map(|line| line.trim_start_matches("usage:").trim()).find(shows).unwrap_or("hdf4 help")
 }
 
 /// What a command says where it has too few words, or too many.

@@ -6,6 +6,7 @@ use crate::print::{to_a_terminal, Print};
 use crate::progress::Progress;
 use crate::store::{self, Written};
 use crate::text::shown;
+use std::borrow::Cow;
 use std::ffi::OsStr;
 use std::fmt::Arguments;
 use std::fs::{self, File, OpenOptions};
@@ -18,12 +19,6 @@ const PRINTED: [&str; 4] = ["-", "/dev/stdout", "/dev/fd/1", "/proc/self/fd/1"];
 
 /// More bytes than a piece of a line has.
 const PIECE: usize = 128;
-
-/// The word that says where output goes, if there is one, and whether a file that is there is written over.
-pub struct Out<'a> {
-    pub word: Option<&'a OsStr>,
-    pub force: bool,
-}
 
 /// Lines on their way: printed as they come, or kept in memory for a file, with the name that messages have.
 pub enum Lines<'a> {
@@ -55,11 +50,11 @@ impl Lines<'_> {
 }
 
 /// Writes lines that are made of a file.
-pub fn put_lines<F>(out: Out, source: &Input, print: &mut Print, write: F) -> Result<(), Fault>
+pub fn put_lines<F>(out: Option<&OsStr>, source: &Input, print: &mut Print, write: F) -> Result<(), Fault>
 where
     F: FnOnce(&mut Lines) -> Result<(), Fault>,
 {
-    if out.word.is_none_or(is_printed) {
+    if out.is_none_or(is_printed) {
         return write(&mut Lines::Printed(print));
     }
     let mut bytes = Vec::new();
@@ -67,59 +62,48 @@ where
     put(out, source, &bytes, print)
 }
 
-fn is_printed(word: &OsStr) -> bool {
-    PRINTED.iter().any(|name| word == *name)
+fn is_printed(out: &OsStr) -> bool {
+    PRINTED.iter().any(|name| out == *name)
 }
 
 /// Writes bytes that were made of a file. To a file it says how many there are; to a terminal they go if they are text, or if
 /// they were asked for by `-`.
-pub fn put(out: Out, source: &Input, bytes: &[u8], print: &mut Print) -> Result<(), Fault> {
-    let Some(word) = out.word else {
+pub fn put(out: Option<&OsStr>, source: &Input, bytes: &[u8], print: &mut Print) -> Result<(), Fault> {
+    let Some(out) = out else {
         if to_a_terminal() && !is_text(bytes) {
             let instead = "name a file for them, or - to have them all the same";
             return Err(Fault::Use(format!("{} bytes that are no text would go to the terminal; {instead}", bytes.len())));
         }
         return print.bytes(bytes);
     };
-    if is_printed(word) {
+    if is_printed(out) {
         return print.bytes(bytes);
     }
-    let warnings = put_to(Path::new(word), out.force, source, bytes)?;
-    store::report(&shown(word), &Written { length: bytes.len(), warnings }, "", print);
+    let path = Path::new(out);
+    let warnings = put_to(path, source, bytes)?;
+    store::report(&shown(out), &Written { length: bytes.len(), warnings }, print);
     Ok(())
 }
 
-/// Writes a file, new or old, or what is no file, as a pipe and a device. An old one is written over only by force, and the one
-/// that was read not at all. Gives warnings.
-fn put_to(path: &Path, force: bool, source: &Input, bytes: &[u8]) -> Result<Vec<String>, Fault> {
+/// Writes a file, new or old, or what is no file, as a pipe and a device. Gives warnings.
+fn put_to(path: &Path, source: &Input, bytes: &[u8]) -> Result<Vec<String>, Fault> {
     let told = |e: io::Error| Fault::system(shown(path), e);
     let open = opened_before(path);
-    if open.is_none() && is_absent(path) {
-        match store::create(path, bytes) {
-            // Another program has made it in this moment.
-            Err(e) if e.kind() == ErrorKind::AlreadyExists => {}
-            created => return created.map_err(told),
+    match open.as_ref().map_or_else(|| fs::metadata(path), File::metadata) {
+        Err(e) if e.kind() == ErrorKind::NotFound && fs::symlink_metadata(path).is_err() => {
+            store::create(path, bytes).map_err(told)
+        }
+        Err(e) => Err(told(e)),
+        Ok(about) if source.identity == Some(identity(&about)) => {
+            Err(Fault::Use(format!("{}: this is the file that is read, and it is left alone", shown(path))))
+        }
+        Ok(about) if about.is_file() && open.is_none() => Ok(store::rewrite(path, |_| Ok(Cow::Borrowed(bytes)))?.warnings),
+        Ok(_) => {
+            let file = open.map_or_else(|| OpenOptions::new().write(true).open(path), Ok);
+            file.and_then(|mut file| file.write_all(bytes)).map_err(told)?;
+            Ok(Vec::new())
         }
     }
-    let about = open.as_ref().map_or_else(|| fs::metadata(path), File::metadata).map_err(told)?;
-    if source.identity == Some(identity(&about)) {
-        return Err(Fault::Use(format!("{}: this is the file that is read, and it is left alone", shown(path))));
-    }
-    if about.is_file() && open.is_none() {
-        if !force {
-            let why = "it is there already, and is left as it is; --force writes over it";
-            return Err(Fault::Use(format!("{}: {why}", shown(path))));
-        }
-        return store::replace(path, bytes).map_err(told);
-    }
-    let file = open.map_or_else(|| OpenOptions::new().write(true).open(path), Ok);
-    file.and_then(|mut file| file.write_all(bytes)).map_err(told)?;
-    Ok(Vec::new())
-}
-
-/// Whether a path names nothing, not even a link that leads nowhere.
-fn is_absent(path: &Path) -> bool {
-    fs::symlink_metadata(path).is_err_and(|e| e.kind() == ErrorKind::NotFound)
 }
 
 /// What the program was started with under a number, as the shell's `3>FILE` gives it: it is written to where it stands.

@@ -40,23 +40,9 @@ impl Print {
     }
 }
 
-/// A line on standard error, without the numbers that the system has for its errors. If nobody can read it there is no one left
-/// to tell.
+/// A line on standard error. If nobody can read it there is no one left to tell.
 pub fn tell(message: impl Display) {
-    let _ = writeln!(io::stderr(), "hdf4: {}", without_numbers(&message.to_string()));
-}
-
-/// A message without ` (os error 2)` behind the words of the system.
-fn without_numbers(message: &str) -> String {
-    let mut parts = message.split(" (os error ");
-    let mut told = parts.next().unwrap_or("").to_string();
-    for part in parts {
-        match part.split_once(')') {
-            Some((number, rest)) if number.bytes().all(|digit| digit.is_ascii_digit()) => told += rest,
-            _ => told = format!("{told} (os error {part}"),
-        }
-    }
-    told
+    let _ = writeln!(io::stderr(), "hdf4: {message}");
 }
 
 extern "C" {
@@ -86,16 +72,4 @@ pub fn is_closed() -> bool {
 /// Whether a person would see what is printed.
 pub fn to_a_terminal() -> bool {
     io::stdout().is_terminal()
-}
-
-#[cfg(test)]
-mod tests {
-    use super::*;
-
-    #[test]
-    fn the_numbers_of_the_system_are_left_out() {
-        assert_eq!(without_numbers("a: No such file or directory (os error 2)"), "a: No such file or directory");
-        assert_eq!(without_numbers("a (os error 13); b (os error 2): c"), "a; b: c");
-        assert_eq!(without_numbers("a (os error x), b (os error"), "a (os error x), b (os error");
-    }
 }

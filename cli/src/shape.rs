@@ -35,7 +35,7 @@ pub struct Shape {
 impl Shape {
     pub fn of(file: &Input, dataset: &Dataset) -> Result<Shape, Fault> {
         let dimensions @ (tag, reference) = (dataset.kind.dimensions, dataset.dimensions);
-        let refused = |e: Error| file.refused_as(format_args!("{tag}/{reference}: {}", file.told(e)));
+        let refused = |e: Error| file.refused(format_args!("{tag}/{reference}: {e}"));
         let pair = |pair: hdf4::Pair| (pair.tag, pair.reference);
         if dataset.kind == &ARRAY {
             let array = hdf4::read_array(&file.bytes, reference).map_err(refused)?;
@@ -62,15 +62,14 @@ impl Shape {
         let (dimensions, (tag, reference)) = (self.dimensions, self.number_type);
         if base_tag(tag) != NUMBER_TYPE {
             let why = format_args!("{}/{} names {tag}/{reference}, which is no number type", dimensions.0, dimensions.1);
-            return Err(file.refused_as(refusal(Rule::Type, why, file.place_of(dimensions))));
+            return Err(file.refused(refusal(Rule::Type, why, file.place_of(dimensions))));
         }
         let number_type = hdf4::read_number_type(&file.bytes, reference);
-        let number_type =
-            number_type.map_err(|e| file.refused_as(format_args!("{NUMBER_TYPE}/{reference}: {}", file.told(e))))?;
+        let number_type = number_type.map_err(|e| file.refused(format_args!("{NUMBER_TYPE}/{reference}: {e}")))?;
         Layout::of(&number_type, dimensions.0 == IMAGE.dimensions).ok_or_else(|| {
             let hdf4::NumberType { number_type, width, class, .. } = number_type;
             let why = format_args!("a number type is not known: code {number_type}, {width} bits, class {class}");
-            file.refused_as(refusal(Rule::Type, why, file.place_of((NUMBER_TYPE, reference))))
+            file.refused(refusal(Rule::Type, why, file.place_of((NUMBER_TYPE, reference))))
         })
     }
 
@@ -103,15 +102,16 @@ impl Form {
         self.bytes_of(rows).map_or("too many".to_string(), |bytes| bytes.to_string())
     }
 
-    /// How many rows data of so many bytes have: as many as the dimensions say, if they agree. libhdf4 leaves the number in the
-    /// dimensions as it was when data with an unlimited dimension grow, and goes by the bytes.
+    /// How many rows data of so many bytes have: as many as the dimensions say, if there are as many. libhdf4 leaves the number in
+    /// the dimensions as it was when data with an unlimited dimension grow, and goes by the bytes: so it is where these are whole
+    /// rows.
     pub fn rows_in(&self, length: u64, is_unlimited: bool) -> Option<u32> {
         let grown = || match self.bytes_of(1) {
-            Some(row @ 1..) if is_unlimited => u32::try_from(length / row).ok(),
+            Some(row @ 1..) if is_unlimited && length % row == 0 => u32::try_from(length / row).ok(),
             _ => None,
         };
         let rows = grown().unwrap_or(self.shape.sizes[0]);
-        (self.bytes_of(rows) == Some(length)).then_some(rows)
+        self.bytes_of(rows).is_some_and(|needed| needed <= length).then_some(rows)
     }
 }
 

@@ -4,11 +4,11 @@
 //! many elements asks this image, which opens fast in any case.
 
 use crate::fault::Fault;
-use crate::input::{self, Input, MAGIC};
+use crate::input::{self, Input};
 use crate::storage::bytes_of;
-use crate::words::Pair;
 use hdf4::{base_tag, Element, Error};
 
+const FIRST_BYTES: [u8; 4] = [0x0e, 0x03, 0x13, 0x01];
 const FIRST_SLOT: usize = 10;
 const SLOT_BYTES: usize = 12;
 
@@ -43,34 +43,6 @@ impl Sorted<'_> {
     }
 }
 
-/// An image of one block with these elements, each in plain storage.
-pub fn plain_image(name: &str, elements: &[(Pair, &[u8])]) -> Result<Vec<u8>, Fault> {
-    let mut next = FIRST_SLOT + SLOT_BYTES * elements.len();
-    let mut image = Vec::new();
-    input::reserve(name, &mut image, next + elements.iter().map(|(_, bytes)| bytes.len()).sum::<usize>())?;
-    begin(&mut image, elements.len());
-    for &((tag, reference), bytes) in elements {
-        put_slot(&mut image, &Element { tag, reference, offset: next as u32, length: bytes.len() as u32 });
-        next += bytes.len();
-    }
-    elements.iter().for_each(|(_, bytes)| image.extend(*bytes));
-    Ok(image)
-}
-
-/// The first bytes of a file, and the head of its one block.
-fn begin(image: &mut Vec<u8>, slots: usize) {
-    image.extend(MAGIC);
-    image.extend((slots as u16).to_be_bytes());
-    image.extend([0; 4]);
-}
-
-fn put_slot(image: &mut Vec<u8>, element: &Element) {
-    image.extend(element.tag.to_be_bytes());
-    image.extend(element.reference.to_be_bytes());
-    image.extend(element.offset.to_be_bytes());
-    image.extend(element.length.to_be_bytes());
-}
-
 /// One block of slots, and behind it the elements' bytes: one after the other, or the whole file where that is shorter, since
 /// elements may share bytes. Those that are not stored are not here either.
 fn image_of(file: &Input, elements: &[Element]) -> Result<Vec<u8>, Fault> {
@@ -79,7 +51,9 @@ fn image_of(file: &Input, elements: &[Element]) -> Result<Vec<u8>, Fault> {
     let whole = total > file.bytes.len() as u64;
     let mut image = Vec::new();
     input::reserve(&file.name, &mut image, directory + file.bytes.len().min(total as usize))?;
-    begin(&mut image, elements.len());
+    image.extend(FIRST_BYTES);
+    image.extend((elements.len() as u16).to_be_bytes());
+    image.extend([0; 4]);
     let mut next = directory;
     for element in elements {
         let offset = if !element.is_stored() {
@@ -89,7 +63,10 @@ fn image_of(file: &Input, elements: &[Element]) -> Result<Vec<u8>, Fault> {
         } else {
             next
         };
-        put_slot(&mut image, &Element { offset: offset as u32, ..*element });
+        image.extend(element.tag.to_be_bytes());
+        image.extend(element.reference.to_be_bytes());
+        image.extend((offset as u32).to_be_bytes());
+        image.extend(element.length.to_be_bytes());
         next += bytes_of(&file.bytes, element).len();
     }
     if whole {

@@ -14,25 +14,18 @@ const CHUNKED: u32 = 5;
 const SPARSE_RECORD: usize = 16;
 const FULL_RECORD: usize = 22;
 
-/// The ways of packing, in libhdf4's numbers.
-const CODERS: [(u16, &str); 7] =
-    [(0, "none"), (1, "run lengths"), (2, "n-bit"), (3, "skipping Huffman"), (4, "deflate"), (5, "szip"), (7, "JPEG")];
-
-#[derive(Clone, Debug, PartialEq)]
+#[derive(Clone, Copy, Debug, PartialEq)]
 pub enum Storage {
     Plain,
     /// Named in the directory, and no more.
     NotStored,
     /// In linked blocks.
     Linked,
-    /// Compressed, by the name of the way.
-    Packed(&'static str),
+    Packed,
     Chunked,
-    /// In the file of that name.
-    External(String),
-    /// By a record of another kind.
-    Other(u32),
-    /// By a record that is too short to name a kind.
+    /// In another file.
+    External,
+    /// By a record of another kind, or one that is too short to name a kind.
     Unknown,
 }
 
@@ -45,41 +38,25 @@ impl Storage {
         if base_tag(element.tag) == element.tag {
             return Storage::Plain;
         }
-        let record = bytes_of(image, element);
-        match kind(record) {
-            None => Storage::Unknown,
+        match kind(bytes_of(image, element)) {
             Some(LINKED) => Storage::Linked,
-            Some(EXTERNAL) => Storage::External(second_file(record)),
-            Some(PACKED) => Storage::Packed(coder(record)),
+            Some(EXTERNAL) => Storage::External,
+            Some(PACKED) => Storage::Packed,
             Some(CHUNKED) => Storage::Chunked,
-            Some(other) => Storage::Other(other),
+            _ => Storage::Unknown,
         }
     }
 
     /// One word for a list.
-    pub fn word(&self) -> &'static str {
+    pub fn word(self) -> &'static str {
         match self {
             Storage::Plain => "plain",
             Storage::NotStored => "not stored",
             Storage::Linked => "linked",
-            Storage::Packed(_) => "packed",
+            Storage::Packed => "packed",
             Storage::Chunked => "chunked",
-            Storage::External(_) => "external",
-            Storage::Other(_) | Storage::Unknown => "unknown",
-        }
-    }
-
-    /// What the element is, behind a verb.
-    pub fn words(&self) -> String {
-        match self {
-            Storage::Plain => "in plain storage".to_string(),
-            Storage::NotStored => "not stored yet".to_string(),
-            Storage::Linked => "in linked blocks".to_string(),
-            Storage::Packed(way) => format!("packed ({way})"),
-            Storage::Chunked => "chunked".to_string(),
-            Storage::External(name) => format!("external, in the file \"{name}\""),
-            Storage::Other(kind) => format!("extended, of kind {kind}"),
-            Storage::Unknown => "extended, by a record without a kind".to_string(),
+            Storage::External => "external",
+            Storage::Unknown => "unknown",
         }
     }
 }
@@ -93,11 +70,11 @@ pub fn own_length(image: &[u8], element: &Element) -> Option<u64> {
         Storage::Plain => Some(record.len() as u64),
         Storage::Linked if record.len() == SPARSE_RECORD => long(2),
         Storage::Linked if record.len() == FULL_RECORD => long(4),
-        Storage::External(_) => long(2),
-        Storage::Packed(_) => long(4),
+        Storage::External => long(2),
+        Storage::Packed => long(4),
         // How many numbers there are, and how many bytes each has.
         Storage::Chunked => Some(long(11)? * long(19)?),
-        Storage::Linked | Storage::NotStored | Storage::Other(_) | Storage::Unknown => None,
+        Storage::Linked | Storage::NotStored | Storage::Unknown => None,
     }
 }
 
@@ -121,19 +98,6 @@ fn kind(record: &[u8]) -> Option<u32> {
         0 => number(record, 0).map(u32::from_be_bytes),
         kind => Some(kind.into()),
     }
-}
-
-fn coder(record: &[u8]) -> &'static str {
-    let code = number(record, 12).map(u16::from_be_bytes);
-    let known = CODERS.iter().find(|known| Some(known.0) == code);
-    known.map_or("in an unknown way", |known| known.1)
-}
-
-/// The name of the file that has the bytes.
-fn second_file(record: &[u8]) -> String {
-    let length = number(record, 10).map_or(0, u32::from_be_bytes) as usize;
-    let name = record.get(14..).unwrap_or(&[]);
-    name.get(..length).unwrap_or(name).escape_ascii().to_string()
 }
 
 /// Some bytes of a record, if it has them.
@@ -161,14 +125,13 @@ mod tests {
         assert_eq!(Storage::of(b"snow", &unstored), Storage::NotStored);
         assert_eq!(stored(b"\0\x01\0\0\0\x30"), Storage::Linked);
         assert_eq!(stored(b"\0\0\0\x01\0\0"), Storage::Linked);
-        assert_eq!(stored(b"\0\x03\0\0\0\0\x04\0\0\x01\0\0\0\x04\0\x06"), Storage::Packed("deflate"));
-        assert_eq!(stored(b"\0\x03\0\0\0\0\x04\0\0\x01\0\0\0\x09"), Storage::Packed("in an unknown way"));
-        assert_eq!(stored(b"\0\x03"), Storage::Packed("in an unknown way"));
+        assert_eq!(stored(b"\0\x03\0\0\0\0\x04\0\0\x01\0\0\0\x04\0\x06"), Storage::Packed);
+        assert_eq!(stored(b"\0\x03"), Storage::Packed);
         assert_eq!(stored(b"\0\x05\0\0\0\x3d"), Storage::Chunked);
-        assert_eq!(stored(b"\0\x02\0\0\0\x28\0\0\0\0\0\0\0\x05a.dat"), Storage::External("a.dat".to_string()));
-        assert_eq!(stored(b"\0\x02\0\0\0\x28\0\0\0\0\xff\xff\xff\xffa\n"), Storage::External("a\\n".to_string()));
-        assert_eq!(stored(b"\0\x09\0\0"), Storage::Other(9));
-        assert_eq!((stored(b"\0"), stored(b"\0\0\0"), stored(b"")), (Storage::Unknown, Storage::Unknown, Storage::Unknown));
+        assert_eq!(stored(b"\0\x02\0\0\0\x28\0\0\0\0\0\0\0\x05a.dat"), Storage::External);
+        for unknown in [&b"\0\x09\0\0"[..], b"\0", b"\0\0\0", b""] {
+            assert_eq!(stored(unknown), Storage::Unknown);
+        }
     }
 
     #[test]

@@ -13,7 +13,7 @@ use crate::temporary::{exchange, folder_of, remove_left_over, Temporary};
 use crate::text::shown;
 use crate::turns::{self, is_at, Locked, PATIENCE};
 use std::borrow::Cow;
-use std::fs::{self, File, Metadata, OpenOptions};
+use std::fs::{self, File, Metadata};
 use std::io::{self, ErrorKind, Write};
 use std::os::unix::fs::MetadataExt;
 use std::path::Path;
@@ -31,10 +31,9 @@ pub struct Written {
     pub warnings: Vec<String>,
 }
 
-/// Says how long a file is now, and what was done to it. It has changed, whatever becomes of that line.
-pub fn report(name: &str, written: &Written, what: &str, print: &mut Print) {
-    let what = if what.is_empty() { String::new() } else { format!("; {what}") };
-    let said = print.report(&format!("{name}: {} bytes{what}\n", written.length));
+/// Says how long a file is now. It has changed, whatever becomes of that line.
+pub fn report(name: &str, written: &Written, print: &mut Print) {
+    let said = print.report(&format!("{name}: {} bytes\n", written.length));
     let unsaid = said.err().map(|e| format!("it has changed, to {} bytes; standard output: {e}", written.length));
     written.warnings.iter().chain(&unsaid).for_each(|warning| tell(format_args!("{name}: {warning}")));
 }
@@ -69,7 +68,7 @@ where
     Err(Fault::system(shown(path), "another program keeps changing it, so it was left alone"))
 }
 
-/// Writes a file that does not exist yet; where another program makes it meanwhile the error is `AlreadyExists`. Gives warnings.
+/// Writes a file that does not exist yet. Gives warnings.
 pub fn create(path: &Path, bytes: &[u8]) -> io::Result<Vec<String>> {
     let name = path.file_name().ok_or(io::Error::new(ErrorKind::InvalidInput, "not the name of a file"))?;
     let path = fs::canonicalize(folder_of(path))?.join(name);
@@ -77,32 +76,8 @@ pub fn create(path: &Path, bytes: &[u8]) -> io::Result<Vec<String>> {
     let mut temporary = Temporary::beside(&path, 0o666, None)?;
     write(&mut temporary.file, &path, bytes)?;
     temporary.file.sync_all()?;
-    if !temporary.take_free_name(&path)? {
-        create_in_place(&path, bytes)?;
-    }
+    temporary.take_name(&path).map_err(unnamed)?;
     Ok(unsynced(folder_of(&path)))
-}
-
-/// Writes a new file under its name. Only where there is no other way: a crash leaves a part of it.
-fn create_in_place(path: &Path, bytes: &[u8]) -> io::Result<()> {
-    let mut file = OpenOptions::new().write(true).create_new(true).open(path)?;
-    let written = write(&mut file, path, bytes).and_then(|()| file.sync_all());
-    if written.is_err() && is_at(&file, path) {
-        let _ = fs::remove_file(path);
-    }
-    written
-}
-
-/// Writes over a file, whatever is in it, so that no lock is needed. A symbolic link to it stays one. Gives warnings.
-pub fn replace(path: &Path, bytes: &[u8]) -> io::Result<Vec<String>> {
-    let path = fs::canonicalize(path)?;
-    remove_left_over(folder_of(&path));
-    let old = turns::open(&path)?;
-    let about = old.metadata()?;
-    alone(&about)?;
-    let (new, unkept) = written_beside(&path, &old, &about, bytes)?;
-    new.take_name(&path).map_err(unnamed)?;
-    Ok(unkept.into_iter().chain(unsynced(folder_of(&path))).collect())
 }
 
 /// Sees to it that the names in a folder are on the disk. If that fails the file has changed all the same.
@@ -133,21 +108,15 @@ enum Anew {
 
 /// Puts new bytes in the place of a file, if it is this edit's turn still and nothing has changed the file. Gives warnings.
 fn put_in_place(old: &Locked, bytes: &[u8]) -> io::Result<Result<Vec<String>, Anew>> {
-    let (new, unkept) = written_beside(&old.path, &old.file, &old.about, bytes)?;
+    let mut new = Temporary::beside(&old.path, 0o600, Some(&old.about))?;
+    write(&mut new.file, &old.path, bytes)?;
+    let unkept = attributes::keep(&old.file, &old.about, &new.file)?;
+    new.file.sync_all()?;
     if !stands(old)? || !old.has_turn() || !is_at(&new.file, &new.path) {
         return Ok(Err(Anew::Outrun));
     }
     let swapped = swap(old, new)?;
     Ok(swapped.map(|()| unkept.into_iter().chain(unsynced(folder_of(&old.path))).collect()))
-}
-
-/// A new file beside the old one, on the disk and with its attributes. A warning says what could not be kept.
-fn written_beside(path: &Path, old: &File, about: &Metadata, bytes: &[u8]) -> io::Result<(Temporary, Option<String>)> {
-    let mut new = Temporary::beside(path, 0o600, Some(about))?;
-    write(&mut new.file, path, bytes)?;
-    let unkept = attributes::keep(old, about, &new.file)?;
-    new.file.sync_all()?;
-    Ok((new, unkept))
 }
 
 fn write(file: &mut File, path: &Path, bytes: &[u8]) -> io::Result<()> {
@@ -267,7 +236,7 @@ mod tests {
             assert_eq!(seen.len(), 2);
             assert_eq!(fs::read(&path).unwrap(), [&seen[1][..], b"x"].concat());
             assert!(seen[1].starts_with(b"1"));
-            assert_eq!(names(&path), ["file"]);
+            assert_eq!(fs::read_dir(path.parent().unwrap()).unwrap().count(), 1);
             end(&path);
         }
     }
@@ -294,7 +263,7 @@ mod tests {
             Ok(Cow::Borrowed(b"lost"))
         });
         assert!(written.is_err());
-        assert!(names(&path).is_empty());
+        assert_eq!(fs::read_dir(path.parent().unwrap()).unwrap().count(), 0);
         end(&path);
     }
 
@@ -312,7 +281,7 @@ mod tests {
             change(&path);
             assert_eq!(swap(&locked, new).unwrap(), Err(Anew::Outrun));
             assert!(fs::read(&path).unwrap().starts_with(b"1"));
-            assert_eq!(names(&path), ["file"]);
+            assert_eq!(fs::read_dir(path.parent().unwrap()).unwrap().count(), 1);
             end(&path);
         }
     }
@@ -330,7 +299,7 @@ mod tests {
         put_back(&new, &path).unwrap();
         assert_eq!(fs::read(&path).unwrap(), b"2");
         drop(new);
-        assert_eq!(names(&path), ["file"]);
+        assert_eq!(fs::read_dir(path.parent().unwrap()).unwrap().count(), 1);
         end(&path);
     }
 

@@ -84,20 +84,6 @@ impl Temporary {
         // A network may lose the answer to what was done.
         fs::rename(&self.path, path).or_else(|e| if is_at(&self.file, path) { Ok(()) } else { Err(e) })
     }
-
-    /// Takes a name that no file has; where one has it the error is `AlreadyExists`. Says whether the file system has a way.
-    pub fn take_free_name(&self, path: &Path) -> io::Result<bool> {
-        let mut named = rename(&self.path, path, NO_REPLACE);
-        if named.as_ref().is_err_and(|e| e.kind() != ErrorKind::AlreadyExists) {
-            // As a second name: the first one is removed with this value.
-            named = fs::hard_link(&self.path, path);
-        }
-        match named {
-            Err(_) if is_at(&self.file, path) => Ok(true),
-            Err(e) if e.kind() == ErrorKind::AlreadyExists => Err(e),
-            named => Ok(named.is_ok()),
-        }
-    }
 }
 
 impl Drop for Temporary {
@@ -109,28 +95,21 @@ impl Drop for Temporary {
     }
 }
 
-/// Ways of a rename: it takes no name that a file has, or two files exchange their names.
-const NO_REPLACE: c_uint = 1;
-const EXCHANGE: c_uint = 2;
-
 const HERE: c_int = -100;
+const EXCHANGE: c_uint = 2;
 
 extern "C" {
     fn renameat2(from_folder: c_int, from: *const c_char, to_folder: c_int, to: *const c_char, flags: c_uint) -> c_int;
 }
 
-fn rename(from: &Path, to: &Path, way: c_uint) -> io::Result<()> {
-    let [from, to] = [from, to].map(|path| CString::new(path.as_os_str().as_bytes()));
-    let (from, to) = (from?, to?);
-    match unsafe { renameat2(HERE, from.as_ptr(), HERE, to.as_ptr(), way) } {
+/// Two files of one folder exchange their names in one step.
+pub fn exchange(one: &Path, other: &Path) -> io::Result<()> {
+    let [one, other] = [one, other].map(|path| CString::new(path.as_os_str().as_bytes()));
+    let (one, other) = (one?, other?);
+    match unsafe { renameat2(HERE, one.as_ptr(), HERE, other.as_ptr(), EXCHANGE) } {
         0 => Ok(()),
         _ => Err(io::Error::last_os_error()),
     }
-}
-
-/// Two files of one folder exchange their names in one step.
-pub fn exchange(one: &Path, other: &Path) -> io::Result<()> {
-    rename(one, other, EXCHANGE)
 }
 
 /// Removes the temporary files of killed programs from a folder, as far as the user may.

@@ -9,11 +9,6 @@ pub fn quoted(text: &[u8]) -> String {
     format!("\"{}\"", text.escape_ascii())
 }
 
-/// So many of a thing: `1 block`, `2 blocks`.
-pub fn counted(count: usize, thing: &str) -> String {
-    format!("{count} {thing}{}", if count == 1 { "" } else { "s" })
-}
-
 /// The first of some words, with a comma between two, and how many there are more.
 pub fn first_of(words: impl Iterator<Item = String>) -> String {
     const MOST: usize = 100;

@@ -1,16 +1,15 @@
 //! The command that prints the values of a Vdata.
 
-use crate::element::{element, most_bytes};
 use crate::fault::Fault;
 use crate::input::{self, Input};
 use crate::json::Json;
+use crate::miscounted;
 use crate::print::Print;
 use crate::progress::Progress;
-use crate::sorted::{self, Sorted};
+use crate::sorted::Sorted;
 use crate::tags::{HEAD, VALUES};
-use crate::text::{first_of, quoted, refusal};
-use crate::words::{is_number, number, Words};
-use crate::{miscounted, newer};
+use crate::text::{quoted, refusal};
+use crate::words::{number, Words};
 use hdf4::{base_type, ByteOrder, Error, Field, Kind, Rule, Value, Vdata};
 use std::borrow::Cow;
 use std::mem::size_of;
@@ -19,6 +18,9 @@ use std::os::unix::ffi::OsStrExt;
 /// Base types of characters.
 const CHARACTERS: [u16; 2] = [3, 4];
 
+/// How many references a message names.
+const MOST_NAMED: usize = 100;
+
 /// How many bytes of columns are kept at most. Values past that are read one by one.
 const MOST_KEPT: usize = 1 << 26;
 
@@ -26,18 +28,26 @@ const MOST_KEPT: usize = 1 << 26;
 pub fn values(words: &Words, print: &mut Print) -> Result<(), Fault> {
     let (path, reference, name) = match (&words.all()[..], words.value("--name")) {
         (&[path], Some(name)) => (path, None, name),
-        (&[path, word], None) if is_number(word) => (path, Some(number(word)?), word),
+        (&[path, word], None) if is_number(word.as_bytes()) => (path, Some(number(word)?), word),
         (&[path, word], None) => (path, None, word),
         _ => return Err(miscounted("values")),
     };
-    let most = most_bytes(words)?;
     let file = input::read(path)?;
     let reference = reference.map_or_else(|| find(&file, name.as_bytes()), Ok)?;
-    let table = Table::of(&file, reference, most)?;
+    let table = Table::of(&file, reference)?;
     if words.has("--json") {
         return table.json(Json::new(print));
     }
     table.lines(print)
+}
+
+/// Whether a word is a reference: decimal digits, or others behind 0x.
+fn is_number(word: &[u8]) -> bool {
+    match word.strip_prefix(b"0x").unwrap_or(word) {
+        [] => false,
+        digits if digits.len() < word.len() => digits.iter().all(u8::is_ascii_hexdigit),
+        digits => digits.iter().all(u8::is_ascii_digit),
+    }
 }
 
 /// The reference of the one Vdata that has a name.
@@ -48,30 +58,25 @@ fn find(file: &Input, name: &[u8]) -> Result<u16, Fault> {
         match hdf4::read_vdata(&heads.image, reference) {
             Ok(vdata) if vdata.name == name => found.push(reference),
             Ok(_) => {}
-            Err(e) if has_unread_name(&heads, reference, e, name) => found.push(reference),
             Err(_) => unread += 1,
         }
     }
     let name = quoted(name);
     match (&found[..], unread) {
         (&[reference], _) => Ok(reference),
-        (&[], 0) => Err(file.refused_as(refusal(Rule::Absent, format_args!("there is no Vdata named {name}"), 0))),
+        (&[], 0) => Err(file.refused(refusal(Rule::Absent, format_args!("there is no Vdata named {name}"), 0))),
         (&[], _) => {
             let why = format_args!("there is no Vdata named {name}, but {unread} cannot be read");
-            Err(file.refused_as(refusal(Rule::Absent, why, 0)))
+            Err(file.refused(refusal(Rule::Absent, why, 0)))
         }
         (several, _) => {
-            let references = first_of(several.iter().map(u16::to_string));
-            let why = format!("several Vdatas are named {name}; give a reference: {references}");
+            let references: Vec<String> = several.iter().take(MOST_NAMED).map(u16::to_string).collect();
+            let more = several.len() - references.len();
+            let more = if more > 0 { format!(" and {more} more") } else { String::new() };
+            let why = format!("several Vdatas are named {name}; give a reference: {}{more}", references.join(", "));
             Err(Fault::Use(format!("{}: {why}", file.name)))
         }
     }
-}
-
-/// Whether a head that is refused has a name, and is of a version that is not read.
-fn has_unread_name(heads: &Sorted, reference: u16, e: Error, name: &[u8]) -> bool {
-    let head = || hdf4::view(&heads.image, HEAD, reference).ok();
-    e.rule == Rule::Record && head().and_then(|head| newer::unread(HEAD, head)).is_some_and(|unread| unread.name == name)
 }
 
 /// A Vdata whose values can be read.
@@ -94,39 +99,20 @@ struct Kept {
 }
 
 impl<'a> Table<'a> {
-    /// Of values in linked blocks room is made for so many bytes at the most.
-    fn of(file: &'a Input, reference: u16, most: Option<usize>) -> Result<Table<'a>, Fault> {
-        let refused = |e: Error| file.refused_as(format_args!("Vdata {reference}: {}", file.told(e)));
+    fn of(file: &'a Input, reference: u16) -> Result<Table<'a>, Fault> {
+        let refused = |e: Error| file.refused(format_args!("Vdata {reference}: {e}"));
         let vdata = hdf4::read_vdata(&file.bytes, reference).map_err(refused)?;
         let before = (0..vdata.fields.len()).map(|index| vdata.fields[..index].iter().map(order).sum()).collect();
         let mut table = Table { file, reference, vdata, image: Cow::Borrowed(&file.bytes), columns: Vec::new(), before };
         if table.records() > 0 {
-            // The first value is refused if any is, and names the place in this file. Each column is read by a call of its own,
-            // and each call opens the image, so that one of head and values alone is made.
-            table.image = match hdf4::read_value(&file.bytes, reference, 0, 0, 0) {
-                Err(Error { rule: Rule::Storage, place }) => Cow::Owned(table.joined(place, most)?),
-                value => {
-                    value.map_err(|e| table.refused(e))?;
-                    let alone = Sorted::of(file, |tag, other| other == reference && [HEAD, VALUES].contains(&tag))?;
-                    Cow::Owned(alone.image)
-                }
-            };
+            // The first value is refused if any is, and names the place in this file.
+            table.value(0, 0, 0)?;
+            // Each column is read by a call of its own, and each call opens the image.
+            let alone = Sorted::of(file, |tag, other| other == reference && [HEAD, VALUES].contains(&tag))?;
+            table.image = Cow::Owned(alone.image);
             table.keep_columns()?;
         }
         Ok(table)
-    }
-
-    /// An image of the head and of values in linked blocks, whose slot is at a place.
-    fn joined(&self, place: u64, most: Option<usize>) -> Result<Vec<u8>, Fault> {
-        let Table { file, reference, .. } = *self;
-        let head = hdf4::view(&file.bytes, HEAD, reference).map_err(|e| self.refused(e))?;
-        let values = element(file, (VALUES, reference), most)?;
-        let image = sorted::plain_image(&file.name, &[((HEAD, reference), head), ((VALUES, reference), &values)])?;
-        match hdf4::read_value(&image, reference, 0, 0, 0) {
-            Ok(_) => Ok(image),
-            Err(e) if e.rule == Rule::Record => Err(self.refused(Error { place, ..e })),
-            Err(e) => Err(self.refused(e)),
-        }
     }
 
     /// Reads the columns in order, as long as there is memory for them.
@@ -165,16 +151,19 @@ impl<'a> Table<'a> {
         }
     }
 
-    /// Values that are refused.
+    /// Values that are refused. Where they are in linked blocks, it is said how to get at their bytes.
     fn refused(&self, e: Error) -> Fault {
         let Table { file, reference, vdata, .. } = self;
         let why = match e.rule {
             Rule::NotStored => {
                 refusal(e.rule, format_args!("the values of its {} records are not stored yet", vdata.records), e.place)
             }
-            _ => file.told(e),
+            Rule::Storage if hdf4::size(&file.bytes, VALUES, *reference).is_ok() => {
+                format!("{e}; the values are in linked blocks, and hdf4 read FILE {VALUES} {reference} gives their bytes")
+            }
+            _ => e.to_string(),
         };
-        file.refused_as(format_args!("Vdata {reference}: {why}"))
+        file.refused(format_args!("Vdata {reference}: {why}"))
     }
 
     /// The values of one field in one record.
@@ -281,17 +270,18 @@ fn byte_order(field: &Field) -> &'static [u8] {
     }
 }
 
-/// A number; a string, as lines have it, where JSON has no number for it.
+/// A number; a string where JSON has no number for it.
 fn json_number(value: &Value, json: &mut Json) -> Result<(), Fault> {
-    let is_number = match *value {
-        Value::Float32(float) => float.is_finite(),
-        Value::Float64(float) => float.is_finite(),
-        Value::Signed(_) | Value::Unsigned(_) => true,
+    let float = match *value {
+        Value::Float32(float) => f64::from(float),
+        Value::Float64(float) => float,
+        Value::Signed(_) | Value::Unsigned(_) => 0.0,
     };
-    if is_number {
-        json.plain(value)
-    } else {
-        json.text(value.to_string().as_bytes())
+    match float {
+        float if float.is_nan() => json.text(b"NaN"),
+        f64::INFINITY => json.text(b"Infinity"),
+        f64::NEG_INFINITY => json.text(b"-Infinity"),
+        _ => json.plain(value),
     }
 }
 

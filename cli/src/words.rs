@@ -81,7 +81,7 @@ fn option(
 /// Tag and reference as they are given: a tag by its name may be one of two.
 pub struct Given {
     tags: Vec<u16>,
-    pub reference: u16,
+    reference: u16,
 }
 
 impl Given {
@@ -89,7 +89,7 @@ impl Given {
         Ok(Given { tags: tags_of(tag)?, reference: number(reference)? })
     }
 
-    /// The pair that is meant where neither is there yet.
+    /// The pair that is meant where none is there yet.
     pub fn first(&self) -> Pair {
         (self.tags[0], self.reference)
     }
@@ -98,6 +98,9 @@ impl Given {
     /// unless both have the same bytes.
     pub fn in_image(&self, image: &[u8]) -> (Pair, Option<String>) {
         let reference = self.reference;
+        if self.tags.len() == 1 {
+            return (self.first(), None);
+        }
         let is_there = |tag: &&u16| hdf4::find(image, **tag, reference).is_ok();
         let there: Vec<u16> = self.tags.iter().filter(is_there).copied().collect();
         let bytes = |tag: u16| hdf4::view(image, tag, reference).ok();
@@ -120,16 +123,6 @@ fn tags_of(word: &OsStr) -> Result<Vec<u16>, Fault> {
     }
     let unknown = |_| Fault::Use(format!("{}: not a number from 0 to 65535, and no name of a tag", shown(word)));
     number(word).map(|tag| vec![tag]).map_err(unknown)
-}
-
-/// Whether a word is a number: decimal digits, or others behind 0x.
-pub fn is_number(word: &OsStr) -> bool {
-    let word = word.as_bytes();
-    match word.strip_prefix(b"0x").unwrap_or(word) {
-        [] => false,
-        digits if digits.len() < word.len() => digits.iter().all(u8::is_ascii_hexdigit),
-        digits => digits.iter().all(u8::is_ascii_digit),
-    }
 }
 
 /// Tag and reference with a slash between them, if a word is such: `302/2` or `RI8/2`.

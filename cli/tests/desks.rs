@@ -3,7 +3,7 @@
 mod common;
 
 use common::files::{file_of, slot, TRAILER};
-use common::{ended_as, ended_with_a_line, file, granted, misused, newest_desk, other_desk, other_desk_at, program, program_at};
+use common::{ended_as, ended_with_a_line, file, granted, misused, newest_desk, other_desk, program, program_at};
 use common::{refused_on, text, Folder};
 use std::fs;
 use std::process::Stdio;
@@ -167,7 +167,8 @@ fn edits_of_old_are_those_of_desk_0() {
     let file = folder.holding("snow.hdf", &edited);
     let word = text(&file);
     let place = edited.len() - 32;
-    refused_on(&file, &["undo", "--desk", "1", word], &other_desk_at(place, 0, 1));
+    let told = format!("OTHER_DESK: the newest edit is desk 0's, and this is desk 1 (number 30, place {place})\n");
+    refused_on(&file, &["undo", "--desk", "1", word], &told);
 
     // A new edit on top of it has its own desk.
     granted(&["replace", "--desk", "1", word, "40000", "5", "/dev/null"]);
@@ -176,6 +177,6 @@ fn edits_of_old_are_those_of_desk_0() {
     granted(&["undo", "--desk", "1", word]);
     assert_eq!(fs::read(&file).unwrap(), edited);
 
-    assert_eq!(granted(&["undo", word]), format!("{word}: 37 bytes; desk 0 undid: added tag 40000 ref 5, 6 bytes\n"));
+    assert_eq!(granted(&["undo", word]), format!("{word}: 37 bytes\n"));
     assert_eq!(fs::read(&file).unwrap(), arrived);
 }

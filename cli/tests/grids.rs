@@ -5,7 +5,7 @@ mod common;
 
 use common::files::{array, array_file, file_of, image, shorts, slot};
 use common::json::Json;
-use common::{ended, file, granted, refused, text, Folder, FILES};
+use common::{ended, file, granted, misused, refused, text, Folder, FILES};
 use std::fs;
 
 /// An array or an image, as libhdf4 reads it.
@@ -62,20 +62,9 @@ fn known() -> Vec<Known> {
 /// How the program prints a number of those lines: a letter for its kind, and the number or the bits of a float.
 fn shown(value: &str) -> String {
     let (kind, digits) = value.split_at(1);
-    let named = |float: f64, text: String| match float {
-        f64::INFINITY => "Infinity".to_string(),
-        f64::NEG_INFINITY => "-Infinity".to_string(),
-        _ => text,
-    };
     match kind {
-        "f" => {
-            let float = f32::from_bits(u32::from_str_radix(digits, 16).unwrap());
-            named(float.into(), format!("{float:?}"))
-        }
-        "d" => {
-            let float = f64::from_bits(u64::from_str_radix(digits, 16).unwrap());
-            named(float, format!("{float:?}"))
-        }
+        "f" => format!("{:?}", f32::from_bits(u32::from_str_radix(digits, 16).unwrap())),
+        "d" => format!("{:?}", f64::from_bits(u64::from_str_radix(digits, 16).unwrap())),
         _ => digits.to_string(),
     }
 }
@@ -220,8 +209,7 @@ fn text_of(pair: &str) -> String {
     }
 }
 
-/// By the reference that libhdf4 gives, by its name, and by each reference that the list has: it is the same, or a line on standard
-/// error says that another was taken.
+/// By the reference that libhdf4 gives, and by its name: it is the same, or a line on standard error says that another was taken.
 #[test]
 fn no_reference_and_no_name_gives_another_grid_without_a_word() {
     let mut told = 0;
@@ -229,7 +217,7 @@ fn no_reference_and_no_name_gives_another_grid_without_a_word() {
         for grid in grids.iter().filter(|grid| grid.is_readable()) {
             let Some(lines) = grid.lines() else { continue };
             let (_, reference) = grid.pair.split_once('/').unwrap();
-            for words in [&[reference][..], &["--name", &grid.name], &[&grid.name]] {
+            for words in [&[reference][..], &["--name", &grid.name]] {
                 let (printed, message) = ended(0, &[&["grid", &grid.path()], words].concat());
                 let is_told = message.contains(" was taken") && message.contains(&grid.path());
                 assert!(printed == lines || is_told, "{} {words:?}: {message}", grid.file);
@@ -250,15 +238,19 @@ fn where_two_could_be_meant_it_is_said_which_was_taken() {
     assert_eq!(ended(0, &["grid", &path, "1"]), (pixel.clone(), String::new()));
     // A Vgroup's alone.
     assert_eq!(ended(0, &["grid", &path, "4"]), (plane.clone(), String::new()));
-    for (word, lines) in [("1965/2", &pixel), ("VG/3", &line), ("306/2", &line), ("RI8/3", &plane), ("by plane", &plane)] {
+    for (word, lines) in [("1965/2", &pixel), ("VG/3", &line), ("306/2", &line), ("RI8/3", &plane)] {
         assert_eq!(ended(0, &["grid", &path, word]), (lines.clone(), String::new()), "{word}");
     }
     assert!(refused(&["grid", &path, "300/2"]).contains("ABSENT: 300/2 gives no array and no image with its dimensions"));
-    assert!(refused(&["grid", "--array", &path, "by line"]).contains("ABSENT: there is no array named \"by line\""));
+    assert_eq!(ended(0, &["grid", &path, "--name", "by plane"]), (plane, String::new()));
+    assert!(refused(&["grid", "--array", &path, "--name", "by line"]).contains("ABSENT: there is no array named \"by line\""));
+    assert!(refused(&["grid", &path, "--name", "x"]).contains("ABSENT: there is no array and no image named \"x\" (number 11"));
+    // A word alone is no name.
+    assert!(misused(&["grid", &path, "by plane"]).contains("by plane: not a number from 0 to 65535"));
 
     let path = file("sds_little_endian.hdf");
     let first = granted(&["grid", &path, "720/2"]);
-    let (printed, message) = ended(0, &["grid", &path, "low byte first"]);
+    let (printed, message) = ended(0, &["grid", &path, "--name", "low byte first"]);
     let others = "5 grids are named \"low byte first\", and 720/2 was taken; others: 720/4, 720/6, 720/8, 720/10";
     assert_eq!((printed, message), (first, format!("hdf4: {path}: {others}\n")));
 }
@@ -317,4 +309,7 @@ fn what_is_refused_of_one_grid_is_said_behind_the_list() {
     let listed = "array data 702/2 sizes 3 x 2 type int16 plain of 11 bytes where the sizes ask for 12\n";
     assert_eq!(granted(&["grids", text(&path)]), listed);
     assert!(granted(&["grids", "--json", text(&path)]).contains("\"storage\":\"plain\",\"misfit\":11}"));
+    let path = folder.holding("long.hdf", &array_file(b"\x01\x15\x08\x01", &[2, 2], &[0; 5]));
+    let listed = "array data 702/2 sizes 2 x 2 type uint8 plain of 5 bytes where the sizes ask for 4\n";
+    assert_eq!(granted(&["grids", text(&path)]), listed);
 }

@@ -72,17 +72,14 @@ fn lines_and_json_are_the_directory() {
         let json = Json::read(&granted(&["list", "--json", &path]));
         assert_eq!(json.keys(), ["blocks", "slots", "live", "elements"]);
         let [blocks, slots, live] = ["blocks", "slots", "live"].map(|key| json[key].number::<usize>());
-        let counted = |count: usize, thing: &str| format!("{count} {thing}{}", if count == 1 { "" } else { "s" });
-        let counts = [counted(blocks, "block"), counted(slots, "slot"), counted(live, "element")].join(", ");
-        assert_eq!(lines.lines().next().unwrap(), counts);
+        assert_eq!(lines.lines().next().unwrap(), format!("{blocks} blocks, {slots} slots, {live} elements"));
         assert_eq!((live, json["elements"].items().len(), lines.lines().count() - 1), (elements.len(), live, live), "{path}");
         for ((line, object), element) in lines.lines().skip(1).zip(json["elements"].items()).zip(elements) {
             let [stored, reference, offset, length] = element;
             let is_extended = (16384..32768).contains(&stored);
             let tag = if is_extended { stored - 16384 } else { stored };
             let is_stored = (offset, length) != (u32::MAX, u32::MAX) || tag == 107;
-            let keys = ["tag", "name", "about", "ref", "stored", "offset", "length", "extended", "storage", "own_length"];
-            assert_eq!(object.keys(), keys);
+            assert_eq!(object.keys(), ["tag", "name", "about", "ref", "stored", "offset", "length", "extended"]);
             assert_eq!(["tag", "ref"].map(|key| object[key].number::<u32>()), [tag, reference], "{path}");
             let number = |number: u32| if is_stored { Json::Number(number.to_string()) } else { Json::Null };
             assert_eq!((&object["offset"], &object["length"]), (&number(offset), &number(length)), "{path}");
@@ -93,13 +90,8 @@ fn lines_and_json_are_the_directory() {
             };
             assert_eq!(named.is_empty(), object["about"] == Json::Null);
             let stored = if is_stored { format!("offset {offset} length {length}") } else { "not stored".to_string() };
-            let linked = match object["storage"].text() {
-                "linked" => format!(" linked length {}", object["own_length"].number::<u32>()),
-                _ => String::new(),
-            };
             let end = if is_extended { " extended" } else { "" };
-            assert_eq!(line, format!("tag {tag}{named} ref {reference} {stored}{linked}{end}"), "{path}");
-            assert_eq!(is_extended, !["plain", "not stored"].contains(&object["storage"].text()), "{path}");
+            assert_eq!(line, format!("tag {tag}{named} ref {reference} {stored}{end}"), "{path}");
         }
     }
 }
@@ -112,7 +104,7 @@ fn elements_that_are_not_stored_are_listed_as_such() {
     let image = (0..elements.len()).map(slot).fold(file_of(&elements), unstored);
     let path = folder.holding("unstored.hdf", &image);
     let expected = "\
-1 block, 3 slots, 3 elements
+1 blocks, 3 slots, 3 elements
 tag 1963 VS Vdata values ref 3 not stored
 tag 702 SD array data ref 4 not stored extended
 tag 107 MT machine type ref 5 offset 4294967295 length 4294967295
@@ -127,56 +119,13 @@ fn json_is_one_line() {
     let path = folder.holding("three.hdf", &unstored(image, slot(2)));
     let expected = "{\"blocks\":1,\"slots\":3,\"live\":3,\"elements\":[\
         {\"tag\":302,\"name\":\"RI8\",\"about\":\"raster image\",\"ref\":2,\
-        \"stored\":true,\"offset\":46,\"length\":3,\"extended\":false,\"storage\":\"plain\",\"own_length\":3},\
-        {\"tag\":40000,\"name\":null,\"about\":null,\"ref\":5,\
-        \"stored\":true,\"offset\":49,\"length\":0,\"extended\":false,\"storage\":\"plain\",\"own_length\":0},\
+        \"stored\":true,\"offset\":46,\"length\":3,\"extended\":false},\
+        {\"tag\":40000,\"name\":null,\"about\":null,\"ref\":5,\"stored\":true,\"offset\":49,\"length\":0,\"extended\":false},\
         {\"tag\":40000,\"name\":null,\"about\":null,\"ref\":6,\
-        \"stored\":false,\"offset\":null,\"length\":null,\"extended\":false,\"storage\":\"not stored\",\"own_length\":null}]}\n";
+        \"stored\":false,\"offset\":null,\"length\":null,\"extended\":false}]}\n";
     assert_eq!(granted(&["list", text(&path), "--json"]), expected);
     let path = folder.holding("none.hdf", &file_of(&[]));
     assert_eq!(granted(&["list", "--json", text(&path)]), "{\"blocks\":1,\"slots\":0,\"live\":0,\"elements\":[]}\n");
-}
-
-/// What libhdf4 reads of each element that it stored in a way of its own: the tag, the reference, and how long it is.
-#[test]
-fn elements_of_every_storage_have_their_own_length() {
-    let own = |name: &str, tag: u16, reference: u16| {
-        let json = Json::read(&granted(&["list", "--json", &file(name)]));
-        let is_meant = |element: &&Json| [&element["tag"], &element["ref"]].map(Json::number::<u16>) == [tag, reference];
-        let element = json["elements"].items().iter().find(is_meant).unwrap();
-        (element["storage"].text().to_string(), element["own_length"].number::<u32>())
-    };
-    let expected = |storage: &str, length: u32| (storage.to_string(), length);
-    assert_eq!(own("mixed.hdf", 302, 2), expected("plain", 63));
-    assert_eq!(own("sds_reopened.hdf", 702, 4), expected("linked", 1240));
-    assert_eq!(own("vdata_appended.hdf", 1963, 2), expected("linked", 180));
-    assert_eq!(own("sds_deflate.hdf", 702, 3), expected("packed", 1024));
-    assert_eq!(own("sds_chunked.hdf", 702, 3), expected("chunked", 256));
-    assert_eq!(own("external.hdf", 1200, 1), expected("external", 64));
-    let listed = granted(&["list", &file("sds_reopened.hdf")]);
-    assert!(listed.contains("\ntag 702 SD array data ref 4 offset 2502 length 16 linked length 1240 extended\n"));
-}
-
-#[test]
-fn several_files_are_listed_with_their_names() {
-    let folder = Folder::new("several");
-    let [one, two] = ["empty.hdf", "mixed.hdf"].map(file);
-    let [first, second] = [&one, &two].map(|path| granted(&["list", path]));
-    assert_eq!(granted(&["list", &one, &two]), format!("{one}:\n{first}\n{two}:\n{second}"));
-    let json = Json::read(&granted(&["list", "--json", &one, &two]));
-    let names: Vec<&str> = json.items().iter().map(|file| file["file"].text()).collect();
-    assert_eq!((names, json.items()[1]["live"].number::<u32>()), (vec![&*one, &*two], 21));
-
-    // One that is refused does not keep the others from being listed, and its status is the first one's.
-    let (refused, absent) = (file("two_machine_types.hdf"), folder.word("h\u{f6}he.hdf"));
-    let (listed, messages) = ended(1, &["list", &refused, &one, &absent]);
-    assert_eq!(listed, format!("\n{one}:\n{first}"));
-    assert!(messages.contains("TWICE") && messages.ends_with(": No such file or directory\n"), "{messages}");
-    let (listed, _) = ended(3, &["list", "--json", &absent, &one]);
-    assert_eq!(Json::read(&listed).items().len(), 1);
-    let path = folder.copy_of("empty.hdf");
-    fs::rename(path, &absent).unwrap();
-    assert_eq!(Json::read(&granted(&["list", "--json", &absent, &one])).items()[0]["file"].text(), absent);
 }
 
 #[test]

@@ -4,9 +4,9 @@ mod common;
 
 use common::files::TRAILER;
 use common::terminal::on_a_terminal;
-use common::{ended_as, failed, file, granted, granted_bytes, misused, program, text, Folder};
+use common::{ended_as, file, granted, granted_bytes, misused, program, text, Folder};
 use std::fs::{self, File};
-use std::os::unix::fs::{symlink, MetadataExt, PermissionsExt};
+use std::os::unix::fs::symlink;
 use std::process::{Command, Stdio};
 
 /// An element of 63 bytes that are no text.
@@ -23,53 +23,20 @@ fn the_file_that_is_read_is_not_overwritten() {
     let before = fs::read(&path).unwrap();
     symlink("mixed.hdf", folder.path("symbolic")).unwrap();
     fs::hard_link(&path, folder.path("hard")).unwrap();
-    for out in ["mixed.hdf", "symbolic", "hard"].map(|name| folder.word(name)) {
-        for out in [&[&*out][..], &[&out, "--force"]] {
-            let message = misused(&words(text(&path), out));
-            assert!(message.contains("this is the file that is read"), "{message}");
-            // Standard input is that file too.
-            let mut read = program();
-            read.args(words("-", out)).stdin(File::open(&path).unwrap());
-            assert!(ended_as(2, &mut read).1.contains("this is the file that is read"));
-            assert_eq!(fs::read(&path).unwrap(), before);
-        }
+    for out in ["mixed.hdf", "symbolic", "hard"] {
+        let message = misused(&words(text(&path), &[&folder.word(out)]));
+        assert!(message.contains("this is the file that is read"), "{message}");
+        assert_eq!(fs::read(&path).unwrap(), before);
+        // Standard input is that file too.
+        let mut read = program();
+        read.args(words("-", &[&folder.word(out)])).stdin(File::open(&path).unwrap());
+        assert!(ended_as(2, &mut read).1.contains("this is the file that is read"));
+        assert_eq!(fs::read(&path).unwrap(), before);
     }
 }
 
 #[test]
-fn a_file_that_is_there_is_written_over_by_force_alone() {
-    let folder = Folder::new("force");
-    let path = file("mixed.hdf");
-    let (out, link) = (folder.holding("out", b"before"), folder.path("link"));
-    fs::set_permissions(&out, fs::Permissions::from_mode(0o640)).unwrap();
-    symlink("out", &link).unwrap();
-    for name in [text(&out), text(&link)] {
-        let number = fs::metadata(&out).unwrap().ino();
-        let expected = format!("hdf4: {name}: it is there already, and is left as it is; --force writes over it\n");
-        assert_eq!(misused(&words(&path, &[name])), expected);
-        assert_eq!((fs::read(&out).unwrap(), fs::metadata(&out).unwrap().ino()), (b"before".to_vec(), number));
-        assert_eq!(granted(&words(&path, &[name, "--force"])), format!("{name}: 63 bytes\n"));
-        assert_eq!(fs::read(&out).unwrap().len(), 63);
-        assert_eq!(fs::metadata(&out).unwrap().mode() & 0o7777, 0o640);
-        fs::write(&out, b"before").unwrap();
-    }
-    assert!(fs::symlink_metadata(&link).unwrap().is_symlink());
-    // A second name would keep the old bytes.
-    fs::hard_link(&out, folder.path("other")).unwrap();
-    misused(&words(&path, &[text(&out)]));
-    assert!(failed(&words(&path, &[text(&out), "--force"])).contains("it has 2 names (hard links)"));
-    assert_eq!(fs::read(&out).unwrap(), b"before");
-    assert_eq!(folder.names(), ["link", "other", "out"]);
-    // It makes a new file too, and has no meaning for what is printed.
-    granted(&words(&path, &[&folder.word("new"), "--force"]));
-    assert_eq!(granted_bytes(&words(&path, &["-", "--force"])).len(), 63);
-    let dangling = folder.path("dangling");
-    symlink("nowhere", &dangling).unwrap();
-    failed(&words(&path, &[text(&dangling)]));
-}
-
-#[test]
-fn a_pipe_is_written_to_without_force() {
+fn a_pipe_is_written_to_where_it_stands() {
     let folder = Folder::new("fifo");
     let pipe = folder.path("pipe");
     assert!(Command::new("mkfifo").arg(&pipe).status().unwrap().success());
@@ -226,6 +193,25 @@ fn raw_bytes_go_to_a_terminal_only_if_asked_for() {
 fn a_terminal_tells_that_an_edit_waits() {
     let folder = Folder::new("waits");
     let path = folder.copy_of("empty.hdf");
+    let held = File::open(&path).unwrap();
+    held.lock().unwrap();
+    let release = std::thread::spawn(move || {
+        std::thread::sleep(std::time::Duration::from_millis(200));
+        drop(held);
+    });
+    let mut command = program();
+    command.args(["add", text(&path), "40000", "5", "/dev/null"]).stdin(Stdio::null());
+    let (status, seen) = on_a_terminal(&mut command);
+    release.join().unwrap();
+    assert_eq!(status, 0);
+    assert!(seen.contains("waiting until another edit is done\n"), "{seen}");
+}
+
+/// Once, though it waits for a lock file and for a lock.
+#[test]
+fn a_terminal_tells_once_that_an_edit_waits() {
+    let folder = Folder::new("waits-once");
+    let path = folder.copy_of("empty.hdf");
     let (held, lock_file) = (File::open(&path).unwrap(), folder.holding(".hdf4-empty.hdf.lock", b""));
     held.lock().unwrap();
     let release = std::thread::spawn(move || {
@@ -239,6 +225,5 @@ fn a_terminal_tells_that_an_edit_waits() {
     let (status, seen) = on_a_terminal(&mut command);
     release.join().unwrap();
     assert_eq!(status, 0);
-    // Once, though it waits for a lock file and for a lock.
     assert_eq!(seen.matches("waiting until another edit is done\n").count(), 1, "{seen}");
 }

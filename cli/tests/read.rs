@@ -92,17 +92,12 @@ fn an_element_goes_to_a_file_new_or_old() {
     let folder = Folder::new("out");
     let path = linked_in(&folder);
     let out = folder.word("out");
-    for option in [&[][..], &["--force"]] {
-        let words = [&["read", &path, "20", "1", &out], option].concat();
-        assert_eq!(granted(&words), format!("{out}: 6 bytes\n"));
+    for _ in 0..2 {
+        assert_eq!(granted(&["read", &path, "20", "1", &out]), format!("{out}: 6 bytes\n"));
         assert_eq!(fs::read(&out).unwrap(), b"\x00\x00\x00\x02\x00\x02");
         fs::write(&out, b"something else").unwrap();
     }
-    let why = "it is there already, and is left as it is; --force writes over it";
-    assert_eq!(misused(&["read", &path, "20", "1", &out]), format!("hdf4: {out}: {why}\n"));
-    // What is read is judged first.
     refused(&["read", &path, "20", "9", &out]);
-    refused(&["read", "--force", &path, "20", "9", &out]);
     assert_eq!(fs::read(&out).unwrap(), b"something else");
     let absent = folder.word("absent/out");
     assert!(failed(&["read", &path, "20", "1", &absent]).contains(&absent));

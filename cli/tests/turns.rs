@@ -3,9 +3,7 @@
 mod common;
 
 use common::files::TRAILER;
-use common::{
-    ended_as, ended_with_a_line, failed, file, granted, newest_desk, other_desk, program, refused, refused_on, text, Folder,
-};
+use common::{ended_as, failed, file, granted, newest_desk, other_desk, program, refused, refused_on, text, Folder};
 use std::fs::{self, File};
 use std::os::unix::fs::{symlink, MetadataExt};
 use std::path::{Path, PathBuf};
@@ -230,11 +228,10 @@ fn a_refused_edit_leaves_no_file() {
 }
 
 /// Calls as other systems have them. A call answers an error with the number that its variable has, and 0 does nothing; the
-/// variable of `fstatfs` has the kind of file system. With the last one, another program makes a file just before this one does.
+/// variable of `fstatfs` has the kind of file system, and with that of `fsync` the disk is slow.
 const IMITATION: &str = r#"
 #define _GNU_SOURCE
 #include <errno.h>
-#include <stdio.h>
 #include <stdlib.h>
 #include <sys/syscall.h>
 #include <unistd.h>
@@ -254,18 +251,8 @@ int flock(int file, int way) {
 
 int renameat2(int from_folder, const char *from, int to_folder, const char *to, unsigned way) {
     int answer;
-    if (way == 1 && getenv("IMITATED_OTHER")) {
-        FILE *other = fopen(to, "w");
-        fputs("other", other);
-        fclose(other);
-    }
     if (imitated("IMITATED_RENAMEAT2", &answer)) return answer;
     return syscall(SYS_renameat2, from_folder, from, to_folder, to, way);
-}
-
-int linkat(int from_folder, const char *from, int to_folder, const char *to, int way) {
-    int answer;
-    return imitated("IMITATED_LINKAT", &answer) ? answer : syscall(SYS_linkat, from_folder, from, to_folder, to, way);
 }
 
 int fsync(int file) {
@@ -283,13 +270,10 @@ int fstatfs(int file, long *about) {
 
 const FLOCK: &str = "IMITATED_FLOCK";
 const RENAMEAT2: &str = "IMITATED_RENAMEAT2";
-const LINKAT: &str = "IMITATED_LINKAT";
 const FSTATFS: &str = "IMITATED_FSTATFS";
 const FSYNC: &str = "IMITATED_FSYNC";
-const OTHER: &str = "IMITATED_OTHER";
 
 const DOES_NOTHING: &str = "0";
-const NOT_PERMITTED: &str = "1";
 const INVALID: &str = "22";
 const NO_LOCKS: &str = "37";
 const NO_SUCH_CALL: &str = "38";
@@ -436,46 +420,22 @@ fn where_locks_tell_nothing_only_old_files_are_removed() {
 }
 
 #[test]
-fn output_needs_no_locks() {
+fn output_goes_to_a_file_on_every_system() {
     let imitation = Imitation::new("output");
-    let linked = systems().into_iter();
-    let unlinked = systems().into_iter().map(|system| [system, vec![(LINKAT, NOT_PERMITTED)]].concat());
-    for system in linked.chain(unlinked) {
+    for system in systems() {
         let folder = Folder::new("output");
         let source = file("mixed.hdf");
         for words in [&["read", &source, "302", "2"][..], &["grid", &source, "2"]] {
             let out = folder.word(words[0]);
             let bytes = imitation.program(&system).args(words).output().unwrap().stdout;
-            let put = || [words, &[&out]].concat();
-            let said = ended_as(0, imitation.program(&system).args(put())).0;
-            assert_eq!(said, format!("{out}: {} bytes\n", bytes.len()), "{system:?}");
-            assert_eq!(fs::read(&out).unwrap(), bytes, "{system:?}");
-            fs::write(&out, b"something else").unwrap();
-            let message = ended_with_a_line(2, imitation.program(&system).args(put()));
-            assert!(message.contains("it is there already"), "{message}");
-            assert_eq!(fs::read(&out).unwrap(), b"something else", "{system:?}");
-            ended_as(0, imitation.program(&system).args(put()).arg("--force"));
-            assert_eq!(fs::read(&out).unwrap(), bytes, "{system:?}");
+            // To a new file, and to one that is there.
+            for _ in 0..2 {
+                let said = ended_as(0, imitation.program(&system).args(words).arg(&out)).0;
+                assert_eq!(said, format!("{out}: {} bytes\n", bytes.len()), "{system:?}");
+                assert_eq!(fs::read(&out).unwrap(), bytes, "{system:?}");
+                fs::write(&out, b"something else").unwrap();
+            }
         }
         assert_eq!(folder.names(), ["grid", "read"], "{system:?}");
-    }
-}
-
-#[test]
-fn output_that_another_program_makes_in_the_same_moment_is_left_as_it_is() {
-    let imitation = Imitation::new("other");
-    let (renamed, linked) = (vec![(OTHER, "")], vec![(OTHER, ""), (RENAMEAT2, INVALID)]);
-    let unlinked = [&linked[..], &[(LINKAT, NOT_PERMITTED)]].concat();
-    for system in [renamed, linked, unlinked] {
-        let folder = Folder::new("other");
-        let (source, out) = (file("mixed.hdf"), folder.word("out"));
-        let read = || ["read", &source, "302", "2", &out];
-        let message = ended_with_a_line(2, imitation.program(&system).args(read()));
-        assert!(message.contains(": it is there already, and is left as it is;"), "{message}");
-        assert_eq!(fs::read(&out).unwrap(), b"other", "{system:?}");
-        fs::remove_file(&out).unwrap();
-        ended_as(0, imitation.program(&system).args(read()).arg("--force"));
-        assert_eq!(fs::read(&out).unwrap().len(), 63, "{system:?}");
-        assert_eq!(folder.names(), ["out"], "{system:?}");
     }
 }

@@ -2,7 +2,7 @@
 
 mod common;
 
-use common::files::{file_of, linked_record, sample, shorts, slot};
+use common::files::{file_of, sample, shorts, slot};
 use common::json::Json;
 use common::{file, granted, misused, program, refused, text, Folder};
 use std::ffi::OsStr;
@@ -74,7 +74,7 @@ const NUMBERS: [Numbers; 10] = [
     (3, [b"\"", b"\xe9"], ["\"\\\"\\xe9\"", "\"\\\"\\u00e9\""]),
     (4, [b"n", b"o"], ["\"no\"", "\"no\""]),
     (5, [b"\x3f\xc0\0\0", b"\x7f\x80\0\x01"], ["1.5 NaN", "[1.5,\"NaN\"]"]),
-    (6, [b"\xc0\x04\0\0\0\0\0\0", b"\x7f\xf0\0\0\0\0\0\0"], ["-2.5 Infinity", "[-2.5,\"Infinity\"]"]),
+    (6, [b"\xc0\x04\0\0\0\0\0\0", b"\x7f\xf0\0\0\0\0\0\0"], ["-2.5 inf", "[-2.5,\"Infinity\"]"]),
     (20, [b"\x80", b"\x7f"], ["-128 127", "[-128,127]"]),
     (21, [b"\x80", b"\x7f"], ["128 127", "[128,127]"]),
     (22, [b"\xff\xfe", b"\x01\x2c"], ["-2 300", "[-2,300]"]),
@@ -180,7 +180,7 @@ fn json_has_text_for_what_is_no_number() {
     assert_eq!((json["name"].text(), json["fields"].items()[0]["name"].text()), ("\u{ff}\\", "a\"\n"));
     assert_eq!(json["records"].items()[0].items()[2].text(), "\u{80}");
     let lines = granted(&["values", text(&path), "1"]);
-    assert_eq!(lines, "a\\\"\\n\ta\\\"\\n\t\\xe9\nNaN Infinity -Infinity -0.0 0.1\t1e300\t\"\\x80\"\n");
+    assert_eq!(lines, "a\\\"\\n\ta\\\"\\n\t\\xe9\nNaN inf -inf -0.0 0.1\t1e300\t\"\\x80\"\n");
     // A name that no text can be.
     let named = program().args(["values", text(&path)]).arg(OsStr::from_bytes(b"\xff\\")).output().unwrap();
     assert_eq!(String::from_utf8(named.stdout).unwrap(), lines);
@@ -318,79 +318,19 @@ fn shortened(folder: &Folder) -> String {
     text(&path).to_string()
 }
 
-/// Values in linked blocks are printed as those in plain storage are.
+/// Values in linked blocks are refused with the command that gives their bytes; stored plainly, they are printed.
 #[test]
-fn values_in_linked_blocks_are_printed() {
+fn values_in_linked_blocks_are_got_at() {
     let folder = Folder::new("linked");
     let path = folder.copy_of("vdata_appended.hdf");
     let path = text(&path);
-    let expected = roads((0..6).chain(0..9));
-    for word in ["growing", "2"] {
-        assert_eq!(granted(&["values", path, word]), expected);
-    }
-    let json = granted(&["values", "--json", path, "growing"]);
-    assert_eq!(Json::read(&json)["records"].items().len(), 15);
+    let rule = "STORAGE: the element is stored in a way that is not read here (number 12, place 22)";
+    let way = "the values are in linked blocks, and hdf4 read FILE 1963 2 gives their bytes";
+    assert_eq!(refused(&["values", path, "growing"]), format!("hdf4: {path}: Vdata 2: {rule}; {way}\n"));
     let values = folder.word("values");
     granted(&["read", path, "1963", "2", &values]);
     granted(&["replace", path, "1963", "2", &values]);
-    assert_eq!(granted(&["values", path, "growing"]), expected);
-    assert_eq!(granted(&["values", "--json", path, "growing"]), json);
-}
-
-/// Every Vdata of the real files whose values libhdf4 left in linked blocks: they are printed as from a file in which they are plain.
-#[test]
-fn values_in_linked_blocks_are_those_of_a_plain_file() {
-    let folder = Folder::new("grown");
-    let mut seen = 0;
-    for name in ["vdata_appendable", "vdata_turns", "vdata_unwritten", "vdata_little_endian_grown", "sds_chunked"] {
-        let path = folder.copy_of(&format!("{name}.hdf"));
-        let list = Json::read(&granted(&["list", "--json", text(&path)]));
-        let linked = |element: &&Json| element["tag"].number::<u16>() == VALUES && element["storage"].text() == "linked";
-        for element in list["elements"].items().iter().filter(linked) {
-            let reference = element["ref"].number::<u16>().to_string();
-            let words = ["values", "--json", text(&path), &reference];
-            let (before, bytes) = (granted(&words), folder.word("bytes"));
-            granted(&["read", "--force", text(&path), "VS", &reference, &bytes]);
-            granted(&["replace", text(&path), "VS", &reference, &bytes]);
-            assert_eq!(granted(&words), before, "{name} {reference}");
-            seen += 1;
-        }
-    }
-    assert!(seen > 5, "{seen}");
-}
-
-/// Linked values that are broken, too short for the records, or longer than there is room for.
-#[test]
-fn values_in_linked_blocks_that_are_broken_are_refused() {
-    let folder = Folder::new("broken");
-    let head = head(b"roads", 3, &[(b"n", 21, 1, 2)]);
-    let file = |length: u32, block: u16| {
-        let (record, table) = (linked_record([length, 4, 4, 2], 1), shorts(&[0, 2, block]));
-        let parts: [(u16, u16, &[u8]); 5] =
-            [(HEAD, 1, &head), (16384 + VALUES, 1, &record), (20, 1, &table), (20, 2, b"\x01\x02\x03\x04"), (20, 3, b"\x05\x06")];
-        text(&folder.holding("broken.hdf", &file_of(&parts))).to_string()
-    };
-    let path = file(6, 3);
-    assert_eq!(granted(&["values", &path, "roads"]), "n\n1 2\n3 4\n5 6\n");
-    assert!(refused(&["values", "--most", "5", &path, "1"]).contains("the element has 6 bytes, see --most"));
-    let path = file(6, 9);
-    let told = "NO_BLOCK: 1963/1 is in linked blocks, and its block 1 (reference 9) is not in the file (number 25, place 22)";
-    assert_eq!(refused(&["values", &path, "1"]), format!("hdf4: {path}: {told}\n"));
-    let path = file(5, 3);
-    let told = "Vdata 1: RECORD: a record breaks its layout (number 15, place 22)";
-    assert_eq!(refused(&["values", &path, "1"]), format!("hdf4: {path}: {told}\n"));
-}
-
-/// Heads of version 4 have attributes. They are sound, and newer.
-#[test]
-fn a_newer_vdata_is_not_called_broken() {
-    for (name, place) in [("vdata_attributes.hdf", 82), ("vdata_little_endian_attributes.hdf", 0)] {
-        for word in ["2", "noted"] {
-            let message = refused(&["values", &file(name), word]);
-            let told = "Vdata 2: RECORD: newer than this program reads: version 4, with attributes (number 15, place ";
-            assert!(message.contains(told) && (place == 0 || message.ends_with(&format!("{place})\n"))), "{message}");
-        }
-    }
+    assert_eq!(granted(&["values", path, "growing"]), roads((0..6).chain(0..9)));
 }
 
 #[test]
@@ -401,6 +341,7 @@ fn refusals_name_their_rule_and_print_nothing() {
     for json in [&[][..], &["--json"]] {
         let refused = |path: &str, word: &str| refused(&[&["values", path, word][..], json].concat());
         assert!(refused(&path, "2").contains("Vdata 2: ABSENT"));
+        assert!(refused(&file("vdata_appended.hdf"), "2").contains("STORAGE"));
         assert!(refused(&shortened, "2").contains("RECORD: a record breaks its layout (number 15, place 22)"));
         assert!(refused(&shortened, "by record").contains("Vdata 2: RECORD"));
         assert!(refused(&file("two_machine_types.hdf"), "x").contains("TWICE"));

@@ -172,19 +172,12 @@ impl<'a> Column<'a> {
     }
 }
 
-/// A number in decimal, a float in the fewest digits that give it back, or as `NaN`, `Infinity` or `-Infinity`.
-///
-/// ```
-/// assert_eq!(hdf4::Value::Float32(0.1).to_string(), "0.1");
-/// assert_eq!(hdf4::Value::Float64(f64::NEG_INFINITY).to_string(), "-Infinity");
-/// ```
+/// A number in decimal, a float in the fewest digits that give it back.
 impl fmt::Display for Value {
     fn fmt(&self, f: &mut fmt::Formatter<'_>) -> fmt::Result {
-        match *self {
+        match self {
             Value::Signed(number) => write!(f, "{number}"),
             Value::Unsigned(number) => write!(f, "{number}"),
-            Value::Float32(f32::INFINITY) | Value::Float64(f64::INFINITY) => write!(f, "Infinity"),
-            Value::Float32(f32::NEG_INFINITY) | Value::Float64(f64::NEG_INFINITY) => write!(f, "-Infinity"),
             Value::Float32(number) => write!(f, "{number:?}"),
             Value::Float64(number) => write!(f, "{number:?}"),
         }

@@ -155,15 +155,9 @@ pub fn newest_desk(file: &Path) -> u32 {
 
 /// The line that tells a desk that a file's newest edit is another one's.
 pub fn other_desk(file: &Path, newest: u32, desk: u32) -> String {
-    let place = fs::metadata(file).unwrap().len() as usize - files::TRAILER;
-    format!("hdf4: {}: {}", text(file), other_desk_at(place, newest, desk))
-}
-
-/// The same behind the name of the file, by the place of the trailer.
-pub fn other_desk_at(place: usize, newest: u32, desk: u32) -> String {
+    let place = fs::metadata(file).unwrap().len() - files::TRAILER as u64;
     let whose = format!("the newest edit is desk {newest}'s, and this is desk {desk}");
-    let way = format!("desk {newest} undoes it first, or edit over it; hdf4 edits shows all edits");
-    format!("OTHER_DESK: {whose} (number 30, place {place}); {way}\n")
+    format!("hdf4: {}: OTHER_DESK: {whose} (number 30, place {place})\n", text(file))
 }
 
 /// Wrong use; answers the line that says so.
