@@ -78,7 +78,11 @@ pub struct Grid<'a> {
 
 impl<'a> Grid<'a> {
     fn read(file: &'a Input, dataset: &Dataset, limits: Limits) -> Result<Grid<'a>, Fault> {
-        let shape = Shape::of(file, dataset)?;
+        let shape = Shape::of(file, dataset);
+        if dataset.data.is_none() && !shape.as_ref().is_ok_and(Shape::has_none) {
+            return Err(absent(file, dataset));
+        }
+        let shape = shape?;
         unpacked(file, dataset, &shape)?;
         let mut form = Form::of(file, shape)?;
         let bytes = data(file, dataset, &form.shape, limits.most)?;
@@ -146,23 +150,23 @@ fn unpacked(file: &Input, dataset: &Dataset, shape: &Shape) -> Result<(), Fault>
 
 /// The bytes of the data, at most so many. Where none are needed they may be not stored.
 fn data<'a>(file: &'a Input, dataset: &Dataset, shape: &Shape, most: Option<usize>) -> Result<Cow<'a, [u8]>, Fault> {
-    let name = dataset.kind.name;
-    let Some(pair @ (tag, reference)) = dataset.data else {
-        if shape.has_none() {
-            return Ok(Cow::Borrowed(&[]));
-        }
-        let (tag, reference) = dataset.pairs().next().unwrap_or_default();
-        let why = format_args!("the {name} of group {tag}/{reference} has dimensions, and no data are stored");
-        return Err(file.refused(refusal(Rule::Absent, why, 0)));
-    };
+    let Some(pair @ (tag, reference)) = dataset.data else { return Ok(Cow::Borrowed(&[])) };
     match hdf4::view(&file.bytes, tag, reference) {
         Err(Error { rule: Rule::NotStored, .. }) if shape.has_none() => Ok(Cow::Borrowed(&[])),
         Err(Error { rule: Rule::NotStored, place }) => {
-            let why = format_args!("the numbers of the {name} {tag}/{reference} are not stored yet");
+            let why = format_args!("the numbers of the {} {tag}/{reference} are not stored yet", dataset.kind.name);
             Err(file.refused(refusal(Rule::NotStored, why, place)))
         }
         _ => element(file, pair, most),
     }
+}
+
+/// Why there are no numbers: a group has dimensions alone, as libhdf4 leaves an array that was never written.
+fn absent(file: &Input, dataset: &Dataset) -> Fault {
+    let (tag, reference) = dataset.pairs().next().unwrap_or_default();
+    let name = dataset.kind.name;
+    let why = format_args!("the {name} of group {tag}/{reference} has dimensions, and no data are stored");
+    file.refused(refusal(Rule::Absent, why, 0))
 }
 
 /// How many rows are read of data of so many bytes: as many as the user says, or as dimensions and data say together. Data may have
@@ -171,22 +175,23 @@ fn rows_of(file: &Input, dataset: &Dataset, form: &Form, length: u64, wanted: Op
     let Form { shape, .. } = form;
     let Some(rows) = wanted else {
         let asking = || format!("its dimensions ask for {}", form.asked_by(shape.sizes[0]));
-        return form.rows_in(length, dataset.is_unlimited).ok_or_else(|| short(file, dataset, form, length, &asking()));
+        return form.rows_in(length, dataset.is_unlimited).ok_or_else(|| file.refused(short(file, dataset, length, &asking())));
     };
     let is_by_plane = matches!(shape.interlace, Interlace::Plane) && shape.components > 1;
     let is_enough = |needed: u64| if is_by_plane { needed == length } else { needed <= length };
     if !form.bytes_of(rows).is_some_and(is_enough) {
-        return Err(short(file, dataset, form, length, &format!("--rows {rows} asks for {}", form.asked_by(rows))));
+        if dataset.data.is_none() {
+            return Err(absent(file, dataset));
+        }
+        let refusal = short(file, dataset, length, &format!("--rows {rows} asks for {}", form.asked_by(rows)));
+        let most = form.bytes_of(1).and_then(|row| length.checked_div(row)).unwrap_or(0);
+        return Err(file.refused(format_args!("{refusal}; the data are enough for {most}")));
     }
     Ok(rows)
 }
 
-/// Data with fewer bytes than are asked for. It is said for how many rows they are enough.
-fn short(file: &Input, dataset: &Dataset, form: &Form, length: u64, asking: &str) -> Fault {
+/// Data with fewer bytes than are asked for.
+fn short(file: &Input, dataset: &Dataset, length: u64, asking: &str) -> String {
     let pair @ (tag, reference) = dataset.data.unwrap_or_default();
-    let why = format_args!("{tag}/{reference} has {length} bytes, and {asking}");
-    let refusal = refusal(Rule::Record, why, file.place_of(pair));
-    let most = form.bytes_of(1).and_then(|row| length.checked_div(row));
-    let way = most.map_or(String::new(), |most| format!("; see --rows, the data are enough for {most}"));
-    file.refused(format_args!("{refusal}{way}"))
+    refusal(Rule::Record, format_args!("{tag}/{reference} has {length} bytes, and {asking}"), file.place_of(pair))
 }

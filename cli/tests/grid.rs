@@ -192,8 +192,7 @@ fn rows_may_be_given_where_data_and_dimensions_do_not_agree() {
     let line = folder.holding("line.hdf", &array_file(UINT8, &[2], b"\x01\x02\x03"));
     assert_eq!(granted(&["grid", "--rows", "3", text(&line), "2"]), "1 2 3\n");
     let short = folder.holding("short.hdf", &array_file(UINT8, &[3, 2], b"\x01\x02\x03\x04\x05"));
-    let told =
-        "RECORD: 702/2 has 5 bytes, and its dimensions ask for 6 (number 15, place 34); see --rows, the data are enough for 2\n";
+    let told = "RECORD: 702/2 has 5 bytes, and its dimensions ask for 6 (number 15, place 34)\n";
     assert!(refused(&["grid", text(&short), "2"]).ends_with(told));
     assert_eq!(granted(&["grid", "--rows", "2", text(&short), "2"]), "1 2\n3 4\n");
     assert!(misused(&["grid", "--rows", "-1", path, "2"]).contains("--rows -1: not a number from 0 to 4294967295"));
@@ -360,6 +359,8 @@ fn an_array_of_no_rows_that_was_never_written_makes_no_lines() {
     let (dimensions, group) = (array(&[0, 3]), shorts(&[106, 1, 701, 2]));
     let path = folder.holding("rowless.hdf", &file_of(&[(106, 1, UINT8), (701, 2, &dimensions), (720, 4, &group)]));
     assert_eq!(granted(&["grid", text(&path), "4"]), "");
+    assert!(refused(&["grid", "--rows", "1", text(&path), "4"])
+        .contains("ABSENT: the array of group 720/4 has dimensions, and no data"));
     assert_eq!(granted(&["grids", text(&path)]), "array name \"Data-Set-4\" group 720/4 sizes 0 x 3 type uint8 not stored\n");
 }
 
