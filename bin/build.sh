@@ -53,9 +53,11 @@ build_library() {
     touch target/hdf4.begun
     # All that is said goes to a file, and what is said of each crate to the user.
     status=$({
-        { rt staticlib hdf4 </dev/null 2>&1; echo $? >&3; } | tee target/hdf4.log | grep '^rt: ' >&2
+        { (cd crates/hdf4 && rt lib) </dev/null 2>&1; echo $? >&3; } | tee target/hdf4.log | grep '^rt: [^n]' >&2
     } 3>&1)
     [ "$status" = 0 ] || fail "the library could not be built: target/hdf4.log says why"
+    mkdir -p target/staticlib
+    cp crates/hdf4/out/libhdf4.a "$library" || fail "$library could not be written"
     touch "$library"
     fresh target/hdf4.begun $library_sources || touch -r target/hdf4.begun "$library"
 }

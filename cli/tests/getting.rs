@@ -59,7 +59,7 @@ fn bare_tools(folder: &Folder) -> PathBuf {
 
 // A small tree: the real scripts with sources of nothing, and builders that only note that they were called.
 
-const RT: &str = "echo rt >>calls; mkdir -p target/staticlib; echo >target/staticlib/libhdf4.a";
+const RT: &str = "echo rt >>calls; mkdir -p crates/hdf4/out; echo >crates/hdf4/out/libhdf4.a";
 const CARGO: &str = "echo cargo >>calls; cp program cli/target/release/hdf4";
 const SOURCES: [&str; 8] = [
     "crates.txt",
@@ -85,7 +85,7 @@ impl Tree {
             fs::create_dir_all(tree.path(source).parent().unwrap()).unwrap();
             fs::write(tree.path(source), "").unwrap();
         }
-        for folder in ["bin", "builders", "cli/target/release"] {
+        for folder in ["bin", "builders", "cli/target/release", "crates/hdf4"] {
             fs::create_dir_all(tree.path(folder)).unwrap();
         }
         for name in ["bin/hdf4", "bin/build.sh"] {
@@ -104,7 +104,8 @@ impl Tree {
     }
 
     fn builders(&self, rt: &str, cargo: &str) {
-        script(&self.path("builders/rt"), &format!("#!/bin/sh\n{rt}\n"));
+        // It is called in the folder of the crate.
+        script(&self.path("builders/rt"), &format!("#!/bin/sh\ncd ../..\n{rt}\n"));
         script(&self.path("builders/cargo"), &format!("#!/bin/sh\n{cargo}\n"));
     }
 
