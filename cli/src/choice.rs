@@ -1,10 +1,12 @@
-//! Which array or image is meant: by a reference, by tag and reference, or by a name. Where two could be meant a note says which one
-//! was taken.
+//! Which array or image is meant: by a reference, by tag and reference, or by a name.
 
-use crate::datasets::{Catalog, Dataset, Kind, ARRAY, IMAGE};
+use crate::datasets::{Catalog, Dataset};
+use crate::directory::{Directory, Kind, ARRAY, IMAGE};
 use crate::fault::Fault;
+use crate::input::Input;
+use crate::reference::{self, names_of, one_of};
 use crate::text::{first_of, quoted, refusal, shown};
-use crate::words::{number, slashed, Given, Pair, Words};
+use crate::words::{number, slashed, Given, Words};
 use hdf4::Rule;
 use std::ffi::OsStr;
 use std::os::unix::ffi::OsStrExt;
@@ -35,125 +37,47 @@ pub fn kinds(words: &Words) -> Vec<&'static Kind> {
     }
 }
 
-/// An array or an image, and a note where others could be meant.
-pub type Found<'a> = (&'a Dataset, Option<String>);
-
-/// The one array or image, of the kinds that are looked for, that is wanted.
-pub fn find<'a>(catalog: &'a Catalog, kinds: &[&'static Kind], wanted: &Wanted) -> Result<Found<'a>, Fault> {
-    let among: Vec<&Dataset> = catalog.datasets.iter().filter(|dataset| kinds.contains(&dataset.kind)).collect();
-    let search = Search { catalog, kinds, among };
+/// The one array or image, of the kinds that are looked for, that is wanted, and a note where others have its name. A reference by
+/// itself tells nothing of what Vgroups say.
+pub fn find(file: &Input, kinds: &[&'static Kind], wanted: &Wanted) -> Result<(Dataset, Option<String>), Fault> {
     match wanted {
-        Wanted::Reference(reference) => search.by_reference(*reference),
-        Wanted::Pair(given, word) => search.by_pair(given, word),
-        Wanted::Name(name) => search.by_name(name),
+        Wanted::Reference(number) => Ok((reference::find(&Directory::of(file)?, kinds, *number)?, None)),
+        Wanted::Pair(given, word) => Ok((by_pair(&Catalog::of(file)?, kinds, given, word)?, None)),
+        Wanted::Name(name) => by_name(&Catalog::of(file)?, kinds, name),
     }
 }
 
-struct Search<'a, 'b> {
-    catalog: &'a Catalog<'a>,
-    kinds: &'b [&'static Kind],
-    among: Vec<&'a Dataset>,
+fn by_pair(catalog: &Catalog, kinds: &[&'static Kind], given: &Given, word: &OsStr) -> Result<Dataset, Fault> {
+    let directory = &catalog.directory;
+    let pair = given.in_image(&directory.file.bytes).0;
+    let found = among(catalog, kinds, |dataset| dataset.pairs().any(|own| own == pair));
+    let none = || none(directory, format!("{} gives no {} with its dimensions", shown(word), names_of(kinds)));
+    let first = *found.first().ok_or_else(none)?;
+    let described = found.iter().filter(|dataset| dataset.data == Some(pair));
+    one_of(directory, first.kind, pair, described.map(|dataset| dataset.dimensions).collect())?;
+    Ok(first.clone())
 }
 
-impl<'a> Search<'a, '_> {
-    fn by_pair(&self, given: &Given, word: &OsStr) -> Result<Found<'a>, Fault> {
-        let pair = given.in_image(&self.catalog.file.bytes).0;
-        let found: Vec<&Dataset> = self.among.iter().copied().filter(|dataset| dataset.pairs().any(|own| own == pair)).collect();
-        self.described_once(pair, &found)?;
-        let none = || self.none(format!("{} gives no {} with its dimensions", shown(word), self.sought()));
-        found.first().map(|dataset| (*dataset, None)).ok_or_else(none)
-    }
+/// The array or image that a name means: the first, as for libhdf4.
+fn by_name(catalog: &Catalog, kinds: &[&'static Kind], name: &OsStr) -> Result<(Dataset, Option<String>), Fault> {
+    let found = among(catalog, kinds, |dataset| dataset.name.as_deref() == Some(name.as_bytes()));
+    let name = quoted(name.as_bytes());
+    let Some((first, others)) = found.split_first() else {
+        return Err(none(&catalog.directory, format!("there is no {} named {name}", names_of(kinds))));
+    };
+    let taken = word_of(first).unwrap_or_default();
+    let told = first_of(others.iter().filter_map(|other| word_of(other)));
+    let note = || format!("{} grids are named {name}, and {taken} was taken; others: {told}", found.len());
+    Ok(((*first).clone(), (!others.is_empty()).then(note)))
+}
 
-    /// The array or image that a name means: the first, as for libhdf4.
-    fn by_name(&self, name: &OsStr) -> Result<Found<'a>, Fault> {
-        let named = |dataset: &&&Dataset| dataset.name.as_deref() == Some(name.as_bytes());
-        let found: Vec<&Dataset> = self.among.iter().filter(named).copied().collect();
-        let name = quoted(name.as_bytes());
-        match found[..] {
-            [] => Err(self.none(format!("there is no {} named {name}", self.sought()))),
-            [dataset] => Ok((dataset, None)),
-            [dataset, ref others @ ..] => {
-                let taken = word_of(dataset).unwrap_or_default();
-                let others = first_of(others.iter().filter_map(|other| word_of(other)));
-                Ok((dataset, Some(format!("{} grids are named {name}, and {taken} was taken; others: {others}", found.len()))))
-            }
-        }
-    }
+/// Those of some kinds that are wanted.
+fn among<'a>(catalog: &'a Catalog, kinds: &[&'static Kind], is_wanted: impl Fn(&Dataset) -> bool) -> Vec<&'a Dataset> {
+    catalog.datasets.iter().filter(|dataset| kinds.contains(&dataset.kind) && is_wanted(dataset)).collect()
+}
 
-    /// The array or image that a reference means: that of its data, of a group, or else of a Vgroup.
-    fn by_reference(&self, reference: u16) -> Result<Found<'a>, Fault> {
-        let mut found = Vec::new();
-        for kind in self.kinds {
-            found.extend(self.of_data(kind, reference)?.or_else(|| self.of_group(kind, reference)));
-        }
-        // One that has no data is taken only where nothing else is.
-        if found.iter().any(|dataset| dataset.data.is_some()) {
-            found.retain(|dataset| dataset.data.is_some());
-        }
-        let dataset = match found[..] {
-            [] => self.of_vgroup(reference),
-            [dataset] => Some(dataset),
-            _ => {
-                let why = "is both an array and an image; give --array or --image";
-                return Err(Fault::Use(format!("{}: reference {reference} {why}", self.catalog.file.name)));
-            }
-        };
-        let none = || self.none(format!("reference {reference} gives no {} with its dimensions", self.sought()));
-        let dataset = dataset.ok_or_else(none)?;
-        Ok((dataset, self.others(reference, dataset)))
-    }
-
-    fn of_data(&self, kind: &Kind, reference: u16) -> Result<Option<&'a Dataset>, Fault> {
-        let mut pairs = kind.data.iter().map(|tag| (*tag, reference));
-        let Some(data) = pairs.find(|pair| self.catalog.element(*pair).is_some()) else { return Ok(None) };
-        let found: Vec<&Dataset> = self.among.iter().copied().filter(|dataset| dataset.data == Some(data)).collect();
-        self.described_once(data, &found)?;
-        Ok(found.first().copied())
-    }
-
-    /// Sees to it that data are described by one record of dimensions alone.
-    fn described_once(&self, (tag, reference): Pair, found: &[&Dataset]) -> Result<(), Fault> {
-        let mut named: Vec<u16> =
-            found.iter().filter(|one| one.data == Some((tag, reference))).map(|one| one.dimensions).collect();
-        named.sort_unstable();
-        named.dedup();
-        let [one, other, ..] = named[..] else { return Ok(()) };
-        let dimensions = found[0].kind.dimensions;
-        let why = format!("groups describe {tag}/{reference} by {dimensions}/{one} and by {dimensions}/{other}");
-        Err(Fault::Use(format!("{}: {why}; give the reference of a group", self.catalog.file.name)))
-    }
-
-    /// The first that a group names; by the groups of the newer tag first, and by those that name data.
-    fn of_group(&self, kind: &Kind, reference: u16) -> Option<&'a Dataset> {
-        let named = || kind.groups.iter().filter_map(|tag| self.catalog.first_of((*tag, reference)));
-        named().find(|dataset| dataset.data.is_some()).or_else(|| named().next())
-    }
-
-    fn of_vgroup(&self, reference: u16) -> Option<&'a Dataset> {
-        self.among.iter().copied().find(|dataset| dataset.vgroup == Some(reference))
-    }
-
-    /// Which one was taken, where a reference could mean another, or is the name of another.
-    fn others(&self, reference: u16, taken: &Dataset) -> Option<String> {
-        let name = reference.to_string();
-        let way = |dataset: &Dataset| match dataset.pairs().find(|pair| pair.1 == reference) {
-            Some((tag, reference)) => Some(format!("{tag}/{reference}")),
-            None => (dataset.name.as_deref() == Some(name.as_bytes())).then(|| format!("--name {name}")),
-        };
-        let others = self.among.iter().filter(|other| !std::ptr::eq(**other, taken));
-        let told = first_of(others.filter_map(|other| Some(format!("{} is {}", way(other)?, other.title()))));
-        (!told.is_empty()).then(|| format!("reference {reference} was taken for {}; {told}", taken.title()))
-    }
-
-    fn none(&self, why: String) -> Fault {
-        self.catalog.file.refused(refusal(Rule::Absent, why, 0))
-    }
-
-    /// `array and no image`, behind `no`.
-    fn sought(&self) -> String {
-        let names: Vec<&str> = self.kinds.iter().map(|kind| kind.name).collect();
-        names.join(" and no ")
-    }
+fn none(directory: &Directory, why: String) -> Fault {
+    directory.file.refused(refusal(Rule::Absent, why, 0))
 }
 
 /// A word that means one array or image and no other.

@@ -1,7 +1,7 @@
 //! The command that prints the numbers of arrays and images: as lines, or as a picture.
 
 use crate::choice::{self, Wanted};
-use crate::datasets::{Catalog, Dataset};
+use crate::datasets::Dataset;
 use crate::element::{element, most_bytes};
 use crate::fault::Fault;
 use crate::input::{self, Input};
@@ -31,9 +31,8 @@ pub fn grid(words: &Words, print: &mut Print) -> Result<(), Fault> {
     let limits =
         Limits { most: most_bytes(words)?, rows: words.value("--rows").map(|word| long_number("--rows", word)).transpose()? };
     let file = input::read(path)?;
-    let catalog = Catalog::of(&file)?;
-    let (dataset, note) = choice::find(&catalog, &choice::kinds(words), &wanted)?;
-    let grid = Grid::read(&file, dataset, limits)?;
+    let (dataset, note) = choice::find(&file, &choice::kinds(words), &wanted)?;
+    let grid = Grid::read(&file, &dataset, limits)?;
     let picture = words.has("--pgm").then(|| pgm::picture(&grid)).transpose()?;
     // Where nothing is refused it is said what was taken.
     note.iter().for_each(|note| tell(format_args!("{}: {note}", file.name)));
@@ -161,12 +160,9 @@ fn data<'a>(file: &'a Input, dataset: &Dataset, shape: &Shape, most: Option<usiz
     }
 }
 
-/// Why there are no numbers: a group has dimensions alone, as libhdf4 leaves an array that was never written.
 fn absent(file: &Input, dataset: &Dataset) -> Fault {
-    let (tag, reference) = dataset.pairs().next().unwrap_or_default();
-    let name = dataset.kind.name;
-    let why = format_args!("the {name} of group {tag}/{reference} has dimensions, and no data are stored");
-    file.refused(refusal(Rule::Absent, why, 0))
+    let group = dataset.pairs().next().unwrap_or_default();
+    file.refused(refusal(Rule::Absent, dataset.kind.without_data(group), 0))
 }
 
 /// How many rows are read of data of so many bytes: as many as the user says, or as dimensions and data say together. Data may have

@@ -40,10 +40,11 @@ struct Row<'a> {
 
 impl<'a> Row<'a> {
     fn of(catalog: &Catalog, dataset: &'a Dataset, faults: &mut Vec<Fault>) -> Row<'a> {
-        let image = &catalog.file.bytes;
-        let element = dataset.data.and_then(|data| catalog.element(data));
+        let file = catalog.directory.file;
+        let image = &file.bytes;
+        let element = dataset.data.and_then(|data| catalog.directory.element(data));
         let storage = element.map_or(Storage::NotStored, |element| Storage::of(image, element));
-        let form = Shape::of(catalog.file, dataset).and_then(|shape| Form::of(catalog.file, shape));
+        let form = Shape::of(file, dataset).and_then(|shape| Form::of(file, shape));
         let form = form.map_err(|fault| faults.push(fault)).ok();
         let mut row = Row { dataset, storage, form, misfit: None };
         row.fit(element.and_then(|element| own_length(image, element)));

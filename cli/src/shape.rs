@@ -1,6 +1,7 @@
 //! The sizes of arrays and images, and how their numbers stand in bytes, by their records of dimensions and of number types.
 
-use crate::datasets::{Dataset, ARRAY, COMPRESSED, IMAGE};
+use crate::datasets::Dataset;
+use crate::directory::{ARRAY, COMPRESSED, IMAGE};
 use crate::fault::Fault;
 use crate::input::Input;
 use crate::numbers::Layout;

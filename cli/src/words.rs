@@ -121,8 +121,7 @@ fn tags_of(word: &OsStr) -> Result<Vec<u16>, Fault> {
     if !named.is_empty() {
         return Ok(named);
     }
-    let unknown = |_| Fault::Use(format!("{}: not a number from 0 to 65535, and no name of a tag", shown(word)));
-    number(word).map(|tag| vec![tag]).map_err(unknown)
+    number(word).map(|tag| vec![tag])
 }
 
 /// Tag and reference with a slash between them, if a word is such: `302/2` or `RI8/2`.

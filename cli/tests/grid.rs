@@ -358,9 +358,11 @@ fn an_array_of_no_rows_that_was_never_written_makes_no_lines() {
     // As libhdf4 leaves it: a group names its dimensions alone.
     let (dimensions, group) = (array(&[0, 3]), shorts(&[106, 1, 701, 2]));
     let path = folder.holding("rowless.hdf", &file_of(&[(106, 1, UINT8), (701, 2, &dimensions), (720, 4, &group)]));
-    assert_eq!(granted(&["grid", text(&path), "4"]), "");
-    assert!(refused(&["grid", "--rows", "1", text(&path), "4"])
-        .contains("ABSENT: the array of group 720/4 has dimensions, and no data"));
+    assert_eq!(granted(&["grid", text(&path), "720/4"]), "");
+    let none = "ABSENT: the array of group 720/4 has dimensions, and no data are stored (number 11, place 0)\n";
+    for words in [&["4"][..], &["--rows", "1", "4"], &["--rows", "1", "720/4"]] {
+        assert!(refused(&[&["grid", text(&path)], words].concat()).ends_with(none), "{words:?}");
+    }
     assert_eq!(granted(&["grids", text(&path)]), "array name \"Data-Set-4\" group 720/4 sizes 0 x 3 type uint8 not stored\n");
 }
 

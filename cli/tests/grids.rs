@@ -143,15 +143,26 @@ fn every_number_of_every_grid_is_the_one_that_libhdf4_reads() {
 
 #[test]
 fn the_arrays_that_grew_are_printed_whole() {
+    let path = file("sds_reopened.hdf");
     for (reference, rows, numbers) in [("2", 124, 620), ("3", 93, 465)] {
-        let printed = granted(&["grid", &file("sds_reopened.hdf"), reference]);
+        let pair = format!("720/{reference}");
+        let printed = granted(&["grid", &path, &pair]);
         assert_eq!((printed.lines().count(), printed.split_whitespace().count()), (rows, numbers));
-        let few = granted(&["grid", "--rows", "2", &file("sds_reopened.hdf"), reference]);
-        assert_eq!(few, printed.split_inclusive('\n').take(2).collect::<String>());
-        let message = refused(&["grid", "--rows", "125", &file("sds_reopened.hdf"), reference]);
-        let [has, asks] = [numbers, 125 * numbers / rows].map(|count| count * if reference == "2" { 2 } else { 1 });
-        assert!(message.contains(&format!("has {has} bytes, and --rows 125 asks for {asks} (number 15, place ")), "{message}");
-        assert!(message.ends_with(&format!("); the data are enough for {rows}\n")), "{message}");
+        // By its reference it has the rows of its record, or those that are asked for.
+        let recorded = granted(&["grid", &path, reference]);
+        assert!(printed.starts_with(&recorded) && recorded.len() < printed.len());
+        for word in [reference, &pair] {
+            assert_eq!(granted(&["grid", "--rows", &rows.to_string(), &path, word]), printed);
+            let few = granted(&["grid", "--rows", "2", &path, word]);
+            assert_eq!(few, printed.split_inclusive('\n').take(2).collect::<String>());
+            let message = refused(&["grid", "--rows", "125", &path, word]);
+            let [has, asks] = [numbers, 125 * numbers / rows].map(|count| count * if reference == "2" { 2 } else { 1 });
+            assert!(
+                message.contains(&format!("has {has} bytes, and --rows 125 asks for {asks} (number 15, place ")),
+                "{message}"
+            );
+            assert!(message.ends_with(&format!("); the data are enough for {rows}\n")), "{message}");
+        }
     }
 }
 
@@ -209,35 +220,29 @@ fn text_of(pair: &str) -> String {
     }
 }
 
-/// By the reference that libhdf4 gives, and by its name: it is the same, or a line on standard error says that another was taken.
+/// By its name it is the same, or a line on standard error says that another was taken.
 #[test]
-fn no_reference_and_no_name_gives_another_grid_without_a_word() {
+fn no_name_gives_another_grid_without_a_word() {
     let mut told = 0;
     for grids in by_file(&known()) {
         for grid in grids.iter().filter(|grid| grid.is_readable()) {
             let Some(lines) = grid.lines() else { continue };
-            let (_, reference) = grid.pair.split_once('/').unwrap();
-            for words in [&[reference][..], &["--name", &grid.name]] {
-                let (printed, message) = ended(0, &[&["grid", &grid.path()], words].concat());
-                let is_told = message.contains(" was taken") && message.contains(&grid.path());
-                assert!(printed == lines || is_told, "{} {words:?}: {message}", grid.file);
-                told += usize::from(is_told);
-            }
+            let (printed, message) = ended(0, &["grid", &grid.path(), "--name", &grid.name]);
+            let is_told = message.contains(" was taken") && message.contains(&grid.path());
+            assert!(printed == lines || is_told, "{} {}: {message}", grid.file, grid.name);
+            told += usize::from(is_told);
         }
     }
     assert!(told > 5, "{told}");
 }
 
 #[test]
-fn where_two_could_be_meant_it_is_said_which_was_taken() {
+fn where_two_could_be_meant_a_word_tells_them_apart() {
     let path = file("gr_24_bit.hdf");
     let [pixel, line, plane] = ["302/1", "302/2", "302/3"].map(|pair| granted(&["grid", &path, pair]));
-    let told = |rest: &str| format!("hdf4: {path}: {rest}\n");
-    let two = "reference 2 was taken for the image \"by line\" (302/2); 1965/2 is the image \"by pixel\" (302/1)";
-    assert_eq!(ended(0, &["grid", &path, "2"]), (line.clone(), told(two)));
-    assert_eq!(ended(0, &["grid", &path, "1"]), (pixel.clone(), String::new()));
-    // A Vgroup's alone.
-    assert_eq!(ended(0, &["grid", &path, "4"]), (plane.clone(), String::new()));
+    // A reference by itself is not that of a Vgroup.
+    assert_eq!(ended(0, &["grid", &path, "2"]), (line.clone(), String::new()));
+    assert!(refused(&["grid", &path, "4"]).contains("ABSENT: reference 4 gives no array and no image with its dimensions"));
     for (word, lines) in [("1965/2", &pixel), ("VG/3", &line), ("306/2", &line), ("RI8/3", &plane)] {
         assert_eq!(ended(0, &["grid", &path, word]), (lines.clone(), String::new()), "{word}");
     }
@@ -255,7 +260,7 @@ fn where_two_could_be_meant_it_is_said_which_was_taken() {
     assert_eq!((printed, message), (first, format!("hdf4: {path}: {others}\n")));
 }
 
-/// A number is a reference, also where it is the name of another.
+/// A number is a reference, also where it is the name of another; what a Vgroup alone names takes a tag or a name.
 #[test]
 fn a_name_that_is_a_number_takes_an_option() {
     let folder = Folder::new("number");
@@ -266,7 +271,7 @@ fn a_name_that_is_a_number_takes_an_option() {
         [shorts(&[tags.len() as u16]), shorts(&tags), shorts(&references), text(name), text(class), shorts(&[0, 0, 3, 0])]
             .concat()
     };
-    let (one, two) = (vgroup(b"3", &[702, 2, 701, 2]), vgroup(b"wide", &[702, 3, 701, 3]));
+    let (one, two) = (vgroup(b"3", &[702, 2, 701, 2]), vgroup(b"wide", &[702, 3, 701, 2]));
     let dimensions = array(&[1]);
     let path = folder.holding(
         "named.hdf",
@@ -274,18 +279,21 @@ fn a_name_that_is_a_number_takes_an_option() {
             (106, 1, b"\x01\x15\x08\x01"),
             (701, 2, &dimensions),
             (702, 2, b"\x07"),
-            (701, 3, &dimensions),
             (702, 3, b"\x08"),
             (1965, 7, &one),
             (1965, 8, &two),
         ]),
     );
     let path = text(&path);
-    let told = "reference 3 was taken for the array \"wide\" (702/3); --name 3 is the array \"3\" (702/2)";
-    assert_eq!(ended(0, &["grid", path, "3"]), ("8\n".to_string(), format!("hdf4: {path}: {told}\n")));
+    assert_eq!(ended(0, &["grid", path, "2"]), ("7\n".to_string(), String::new()));
     assert_eq!(ended(0, &["grid", "--name", "3", path]), ("7\n".to_string(), String::new()));
     assert_eq!(ended(0, &["grid", "--name", "3", path, "-"]), ("7\n".to_string(), String::new()));
-    assert_eq!(ended(0, &["grid", path, "8"]), ("8\n".to_string(), String::new()));
+    for reference in ["3", "7", "8"] {
+        assert!(refused(&["grid", path, reference]).contains(&format!("ABSENT: reference {reference} gives no array")));
+    }
+    for words in [&["702/3"][..], &["1965/8"], &["VG/8"], &["--name", "wide"]] {
+        assert_eq!(ended(0, &[&["grid", path], words].concat()), ("8\n".to_string(), String::new()));
+    }
 }
 
 #[test]
