@@ -136,11 +136,7 @@ fn main() -> ExitCode {
     // A limit on the length of files is then an error of writing, and does not kill.
     unsafe { signal(FILE_TOO_LARGE, IGNORED) };
     let mut print = Print::new();
-    let done = if print::is_closed() {
-        Err(Fault::system("standard output", "it is closed, so nothing was done"))
-    } else {
-        run(env::args_os().skip(1).collect(), &mut print)
-    };
+    let done = run(env::args_os().skip(1).collect(), &mut print);
     // What was printed before a refusal goes out before its message.
     let flushed = print.flush();
     let Err(fault) = done.and(flushed) else { return ExitCode::SUCCESS };

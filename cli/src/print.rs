@@ -1,10 +1,8 @@
 //! Standard output: text and bytes, as they come.
 
 use crate::fault::Fault;
-use std::ffi::c_int;
 use std::fmt::{Arguments, Display};
 use std::io::{self, BufWriter, IsTerminal, StdoutLock, Write};
-use std::sync::atomic::{AtomicBool, Ordering};
 
 pub struct Print {
     out: BufWriter<StdoutLock<'static>>,
@@ -43,30 +41,6 @@ impl Print {
 /// A line on standard error. If nobody can read it there is no one left to tell.
 pub fn tell(message: impl Display) {
     let _ = writeln!(io::stderr(), "hdf4: {message}");
-}
-
-extern "C" {
-    fn fcntl(file: c_int, command: c_int, ...) -> c_int;
-}
-
-const STANDARD_OUTPUT: c_int = 1;
-const FLAGS_OF_DESCRIPTOR: c_int = 1;
-
-static CLOSED: AtomicBool = AtomicBool::new(false);
-
-/// Looks before anything else runs: Rust opens a standard output that is closed as one that takes all and keeps nothing.
-#[used]
-#[link_section = ".init_array"]
-static LOOK: extern "C" fn() = look;
-
-extern "C" fn look() {
-    let is_closed = unsafe { fcntl(STANDARD_OUTPUT, FLAGS_OF_DESCRIPTOR) } == -1;
-    CLOSED.store(is_closed, Ordering::Relaxed);
-}
-
-/// Whether the program was started without a standard output.
-pub fn is_closed() -> bool {
-    CLOSED.load(Ordering::Relaxed)
 }
 
 /// Whether a person would see what is printed.

@@ -9,15 +9,16 @@ use crate::fault::Fault;
 use crate::input::identity;
 use crate::print::{tell, Print};
 use crate::progress::Progress;
-use crate::temporary::{exchange, folder_of, remove_left_over, Temporary};
+use crate::temporary::{folder_of, remove_left_over, remove_old, Temporary};
 use crate::text::shown;
-use crate::turns::{self, is_at, Locked, PATIENCE};
+use crate::turns::{is_at, lock, Locked};
 use std::borrow::Cow;
+use std::ffi::{c_char, c_int, c_uint, CString};
 use std::fs::{self, File, Metadata};
 use std::io::{self, ErrorKind, Write};
+use std::os::unix::ffi::OsStrExt;
 use std::os::unix::fs::MetadataExt;
 use std::path::Path;
-use std::time::Duration;
 
 /// How many bytes are written at a time.
 const PART: usize = 1 << 24;
@@ -40,29 +41,20 @@ pub fn report(name: &str, written: &Written, print: &mut Print) {
 
 /// Gives a file the bytes that are made of it. A symbolic link to it stays one. Where another program changes the file
 /// meanwhile they are made anew.
-pub fn rewrite<'a, F>(path: &Path, make: F) -> Result<Written, Fault>
-where
-    F: FnMut(&Locked) -> Result<Cow<'a, [u8]>, Fault>,
-{
-    rewrite_within(PATIENCE, path, make)
-}
-
-/// The same, with so much patience for a lock file.
-fn rewrite_within<'a, F>(patience: Duration, path: &Path, mut make: F) -> Result<Written, Fault>
+pub fn rewrite<'a, F>(path: &Path, mut make: F) -> Result<Written, Fault>
 where
     F: FnMut(&Locked) -> Result<Cow<'a, [u8]>, Fault>,
 {
     let told = |e: io::Error| Fault::system(shown(path), e);
-    let mut needs_lock_file = false;
     for _ in 0..MOST_TRIES {
-        let locked = turns::take(&fs::canonicalize(path).map_err(told)?, needs_lock_file, patience).map_err(told)?;
-        remove_left_over(folder_of(&locked.path));
+        let locked = lock(&fs::canonicalize(path).map_err(told)?).map_err(told)?;
+        let remove = if locked.has_lock_file() { remove_old } else { remove_left_over };
+        remove(folder_of(&locked.path));
         alone(&locked.about).map_err(told)?;
         let bytes = make(&locked)?;
-        match put_in_place(&locked, &bytes).map_err(told)? {
-            Ok(warnings) => return Ok(Written { length: bytes.len(), warnings }),
-            Err(Anew::Outrun) => {}
-            Err(Anew::ByLockFile) => needs_lock_file = true,
+        let done = put_in_place(&locked, &bytes).map_err(told)?;
+        if let Some(warnings) = done {
+            return Ok(Written { length: bytes.len(), warnings });
         }
     }
     Err(Fault::system(shown(path), "another program keeps changing it, so it was left alone"))
@@ -97,26 +89,16 @@ fn alone(about: &Metadata) -> io::Result<()> {
     }
 }
 
-/// Why an edit is made anew.
-#[derive(Debug, PartialEq)]
-enum Anew {
-    /// Another program was faster.
-    Outrun,
-    /// Names cannot be exchanged here, so that only a lock file keeps other edits off.
-    ByLockFile,
-}
-
-/// Puts new bytes in the place of a file, if it is this edit's turn still and nothing has changed the file. Gives warnings.
-fn put_in_place(old: &Locked, bytes: &[u8]) -> io::Result<Result<Vec<String>, Anew>> {
+/// Puts new bytes in the place of a file, if it is this edit's turn still: none where another program has changed it, else warnings.
+fn put_in_place(old: &Locked, bytes: &[u8]) -> io::Result<Option<Vec<String>>> {
     let mut new = Temporary::beside(&old.path, 0o600, Some(&old.about))?;
     write(&mut new.file, &old.path, bytes)?;
     let unkept = attributes::keep(&old.file, &old.about, &new.file)?;
     new.file.sync_all()?;
-    if !stands(old)? || !old.has_turn() || !is_at(&new.file, &new.path) {
-        return Ok(Err(Anew::Outrun));
+    if !stands(old)? || !old.has_turn() || !is_at(&new.file, &new.path) || !swap(old, new)? {
+        return Ok(None);
     }
-    let swapped = swap(old, new)?;
-    Ok(swapped.map(|()| unkept.into_iter().chain(unsynced(folder_of(&old.path))).collect()))
+    Ok(Some(unkept.into_iter().chain(unsynced(folder_of(&old.path))).collect()))
 }
 
 fn write(file: &mut File, path: &Path, bytes: &[u8]) -> io::Result<()> {
@@ -128,21 +110,20 @@ fn write(file: &mut File, path: &Path, bytes: &[u8]) -> io::Result<()> {
     Ok(())
 }
 
-/// Gives a new file the name of the old one, which goes.
-fn swap(old: &Locked, new: Temporary) -> io::Result<Result<(), Anew>> {
+/// Gives a new file the name of the old one, which goes. Says whether it did: another program may have been faster.
+fn swap(old: &Locked, new: Temporary) -> io::Result<bool> {
     match exchange(&new.path, &old.path) {
-        Err(e) if !is_unsupported(&e) => return Err(unnamed(e)),
-        Err(_) if !old.has_lock_file() => return Ok(Err(Anew::ByLockFile)),
-        Err(_) => new.take_name(&old.path).map_err(unnamed)?,
+        Err(e) if is_unsupported(&e) => new.take_name(&old.path).map_err(unnamed)?,
+        Err(e) => return Err(unnamed(e)),
         Ok(()) if is_replaced(old, &new) => {}
         Ok(()) => {
             put_back(&new, &old.path).map_err(|e| {
                 io::Error::other(format!("another program was faster, and its file is {} now: {e}", shown(&new.path)))
             })?;
-            return Ok(Err(Anew::Outrun));
+            return Ok(false);
         }
     }
-    Ok(Ok(()))
+    Ok(true)
 }
 
 /// Whether it is the old file that an exchange has given the temporary name, with which it is removed. Another edit may have done
@@ -188,7 +169,24 @@ fn same_bytes(before: &Metadata, now: &Metadata) -> bool {
     seen(before) == seen(now)
 }
 
-/// Whether a file system has no such call.
+const HERE: c_int = -100;
+const EXCHANGE: c_uint = 2;
+
+extern "C" {
+    fn renameat2(from_folder: c_int, from: *const c_char, to_folder: c_int, to: *const c_char, flags: c_uint) -> c_int;
+}
+
+/// Two files of one folder exchange their names in one step.
+fn exchange(one: &Path, other: &Path) -> io::Result<()> {
+    let [one, other] = [one, other].map(|path| CString::new(path.as_os_str().as_bytes()));
+    let (one, other) = (one?, other?);
+    match unsafe { renameat2(HERE, one.as_ptr(), HERE, other.as_ptr(), EXCHANGE) } {
+        0 => Ok(()),
+        _ => Err(io::Error::last_os_error()),
+    }
+}
+
+/// Whether a file system has no such call. Then a plain rename has to do.
 fn is_unsupported(e: &io::Error) -> bool {
     matches!(e.kind(), ErrorKind::Unsupported | ErrorKind::InvalidInput)
 }
@@ -196,8 +194,10 @@ fn is_unsupported(e: &io::Error) -> bool {
 #[cfg(test)]
 mod tests {
     use super::*;
-    use crate::turns::tests::{end, file, names, taken, SHORT};
+    use crate::turns::by_lock_file;
+    use crate::turns::tests::{end, file, names, SHORT};
     use std::thread;
+    use std::time::Duration;
 
     fn bytes_in(locked: &Locked) -> Vec<u8> {
         let mut bytes = Vec::new();
@@ -272,14 +272,14 @@ mod tests {
         let changes: [fn(&Path); 2] = [|path| take_the_name(path, b"1"), |path| fs::write(path, b"12").unwrap()];
         for (index, change) in changes.into_iter().enumerate() {
             let path = file(&format!("swap-{index}"));
-            let locked = taken(&path);
+            let locked = lock(&path).unwrap();
             let new = Temporary::beside(&path, 0o600, Some(&locked.about)).unwrap();
             if exchange(&path, &path).is_err_and(|e| is_unsupported(&e)) {
                 eprintln!("names cannot be exchanged in {}", path.display());
                 return end(&path);
             }
             change(&path);
-            assert_eq!(swap(&locked, new).unwrap(), Err(Anew::Outrun));
+            assert!(!swap(&locked, new).unwrap());
             assert!(fs::read(&path).unwrap().starts_with(b"1"));
             assert_eq!(fs::read_dir(path.parent().unwrap()).unwrap().count(), 1);
             end(&path);
@@ -289,7 +289,7 @@ mod tests {
     #[test]
     fn the_last_of_several_faster_programs_keeps_the_name() {
         let path = file("faster");
-        let new = Temporary::beside(&path, 0o600, Some(&taken(&path).about)).unwrap();
+        let new = Temporary::beside(&path, 0o600, Some(&lock(&path).unwrap().about)).unwrap();
         if exchange(&path, &path).is_err_and(|e| is_unsupported(&e)) {
             return end(&path);
         }
@@ -306,7 +306,7 @@ mod tests {
     #[test]
     fn the_file_of_another_program_is_not_removed_under_a_temporary_name() {
         let path = file("foreign");
-        let new = Temporary::beside(&path, 0o600, Some(&taken(&path).about)).unwrap();
+        let new = Temporary::beside(&path, 0o600, Some(&lock(&path).unwrap().about)).unwrap();
         let name = new.path.clone();
         take_the_name(&path, b"1");
         fs::rename(&path, &name).unwrap();
@@ -317,36 +317,14 @@ mod tests {
     }
 
     #[test]
-    fn an_edit_whose_turn_another_takes_is_made_anew() {
+    fn an_edit_whose_turn_another_takes_is_not_done() {
         let path = file("crossed");
         let lock_file = path.with_file_name(".hdf4-file.lock");
-        let mut seen = 0;
-        let written = rewrite(&path, |_| {
-            seen += 1;
-            if seen == 1 {
-                fs::write(&lock_file, "process 1 on host other\n").unwrap();
-                let (path, lock_file) = (path.clone(), lock_file.clone());
-                thread::spawn(move || {
-                    thread::sleep(SHORT);
-                    assert_eq!(fs::read(&path).unwrap(), b"0");
-                    fs::remove_file(&lock_file).unwrap();
-                });
-            }
-            Ok(Cow::Borrowed(b"new"))
-        });
-        assert!(written.is_ok() && seen == 2);
-        assert_eq!(fs::read(&path).unwrap(), b"new");
-        assert_eq!(names(&path), ["file"]);
-        end(&path);
-    }
-
-    #[test]
-    fn an_edit_that_waits_too_long_is_a_fault_of_the_system() {
-        let path = file("stale");
-        fs::write(path.with_file_name(".hdf4-file.lock"), "process 1 on host other\n").unwrap();
-        let Err(fault) = rewrite_within(SHORT, &path, |_| panic!("it has no turn")) else { panic!("it has waited for nothing") };
-        assert_eq!(fault.status(), 3);
-        assert!(fault.messages()[0].starts_with(&format!("{}: its lock file ", path.display())));
+        let locked = by_lock_file(&path, SHORT).unwrap();
+        fs::remove_file(&lock_file).unwrap();
+        fs::write(&lock_file, "process 1 on host other\n").unwrap();
+        assert!(put_in_place(&locked, b"new").unwrap().is_none());
+        drop(locked);
         assert_eq!(fs::read(&path).unwrap(), b"0");
         assert_eq!(names(&path), [".hdf4-file.lock", "file"]);
         end(&path);
@@ -354,16 +332,16 @@ mod tests {
 
     #[test]
     fn an_edit_whose_temporary_file_is_removed_is_not_done() {
-        for needs_lock_file in [false, true] {
-            let path = file(&format!("vanished-{needs_lock_file}"));
-            let locked = turns::take(&path, needs_lock_file, SHORT).unwrap();
+        let path = file("vanished");
+        for lock in [lock, |path: &Path| by_lock_file(path, SHORT)] {
+            let locked = lock(&path).unwrap();
             let new = Temporary::beside(&path, 0o600, Some(&locked.about)).unwrap();
             fs::remove_file(&new.path).unwrap();
             assert!(swap(&locked, new).is_err());
             assert_eq!(fs::read(&path).unwrap(), b"0");
             drop(locked);
             assert_eq!(names(&path), ["file"]);
-            end(&path);
         }
+        end(&path);
     }
 }

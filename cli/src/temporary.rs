@@ -7,7 +7,6 @@
 //! was written. Before its own number is known a file is `.hdf4-PROGRAM-COUNT.new`, and empty.
 
 use crate::turns::{self, is_at, Lock, DO_NOT_FOLLOW, DO_NOT_WAIT};
-use std::ffi::{c_char, c_int, c_uint, CString};
 use std::fs::{self, File, Metadata, OpenOptions};
 use std::io::{self, ErrorKind};
 use std::os::unix::ffi::OsStrExt;
@@ -63,7 +62,7 @@ impl Temporary {
                 Err(e) if e.kind() == ErrorKind::AlreadyExists => continue,
                 file => file.map_err(turns::none_beside)?,
             };
-            if matches!(turns::lock(&file), Lock::Others) || !is_at(&file, &first) {
+            if matches!(turns::try_lock(&file), Lock::Others) || !is_at(&file, &first) {
                 // Another program that cleans up was in between.
                 continue;
             }
@@ -95,25 +94,22 @@ impl Drop for Temporary {
     }
 }
 
-const HERE: c_int = -100;
-const EXCHANGE: c_uint = 2;
-
-extern "C" {
-    fn renameat2(from_folder: c_int, from: *const c_char, to_folder: c_int, to: *const c_char, flags: c_uint) -> c_int;
-}
-
-/// Two files of one folder exchange their names in one step.
-pub fn exchange(one: &Path, other: &Path) -> io::Result<()> {
-    let [one, other] = [one, other].map(|path| CString::new(path.as_os_str().as_bytes()));
-    let (one, other) = (one?, other?);
-    match unsafe { renameat2(HERE, one.as_ptr(), HERE, other.as_ptr(), EXCHANGE) } {
-        0 => Ok(()),
-        _ => Err(io::Error::last_os_error()),
-    }
-}
-
 /// Removes the temporary files of killed programs from a folder, as far as the user may.
 pub fn remove_left_over(folder: &Path) {
+    remove(folder, |file| matches!(turns::try_lock(file), Lock::Ours));
+}
+
+/// The same where files cannot be locked: those that are old.
+pub fn remove_old(folder: &Path) {
+    remove(folder, |file| match turns::try_lock(file) {
+        Lock::Ours => true,
+        Lock::Others => false,
+        Lock::Useless => is_old(file),
+    });
+}
+
+/// Removes temporary files that no program is at.
+fn remove(folder: &Path, is_free: impl Fn(&File) -> bool) {
     let Ok(entries) = fs::read_dir(folder) else { return };
     for entry in entries.flatten() {
         let name = entry.file_name();
@@ -123,12 +119,7 @@ pub fn remove_left_over(folder: &Path) {
             continue;
         }
         let Ok(file) = OpenOptions::new().read(true).custom_flags(DO_NOT_WAIT | DO_NOT_FOLLOW).open(&path) else { continue };
-        let is_free = match turns::lock(&file) {
-            Lock::Ours => true,
-            Lock::Others => false,
-            Lock::Useless => is_old(&file),
-        };
-        if is_free && is_at(&file, &path) && file.metadata().is_ok_and(|about| is_left(&about)) {
+        if is_free(&file) && is_at(&file, &path) && file.metadata().is_ok_and(|about| is_left(&about)) {
             let _ = fs::remove_file(&path);
         }
     }

@@ -1,20 +1,17 @@
-//! Edits of one file take turns: by a lock on the file itself (`flock`), where locks are seen to work and the folder is of this
-//! machine alone.
+//! Edits of one file take turns: by a lock on the file itself (`flock`) or, where it cannot be locked, by a lock file beside it.
 //!
-//! Elsewhere, and where names cannot be exchanged, an edit has a lock file beside the file too. It is made before the file is
-//! opened, its maker alone removes it, and while it is there no other edit begins.
+//! A lock file is made before the file is opened, its maker alone removes it, and while it is there no other edit begins that takes
+//! turns by it.
 
 use crate::input::identity;
 use crate::print::tell;
 use crate::text::shown;
-use std::ffi::{c_int, c_long, OsStr};
+use std::ffi::{c_int, OsStr};
 use std::fs::{self, File, Metadata, OpenOptions, TryLockError};
 use std::io::{self, ErrorKind, IsTerminal, Read, Write};
-use std::os::fd::AsRawFd;
 use std::os::unix::ffi::OsStrExt;
 use std::os::unix::fs::{MetadataExt, OpenOptionsExt};
 use std::path::{Path, PathBuf};
-use std::sync::Once;
 use std::time::{Duration, Instant};
 use std::{process, thread};
 
@@ -23,7 +20,7 @@ pub const DO_NOT_WAIT: i32 = 0o4000;
 pub const DO_NOT_FOLLOW: i32 = 0o400000;
 
 /// How long one lock file may stand before an edit that waits for it gives up.
-pub const PATIENCE: Duration = Duration::from_secs(30);
+const PATIENCE: Duration = Duration::from_secs(30);
 
 /// How often an edit that had to wait finds another file in the place of the one that it waited for.
 const MOST_TURNS: usize = 10_000;
@@ -45,137 +42,80 @@ impl Locked {
         self.lock_file.is_some()
     }
 
-    /// Whether it is this edit's turn still: its lock file is there, or there is none.
+    /// Whether it is this edit's turn still: its lock file is there, if it has one.
     pub fn has_turn(&self) -> bool {
-        match &self.lock_file {
-            Some(lock_file) => lock_file.is_there(),
-            None => !is_there(&lock_file_of(&self.path)),
-        }
+        self.lock_file.as_ref().is_none_or(LockFile::is_there)
     }
 }
 
-/// Opens a file to be edited and waits until no other edit has it. A lock file is made where it is asked for, where locks do not
-/// work, and where another edit has one. The wait for one and the same lock file is limited.
-pub fn take(path: &Path, mut needs_lock_file: bool, patience: Duration) -> io::Result<Locked> {
-    let mut lock_file = None;
+/// Opens a file to be edited and waits until no other edit has it.
+pub fn lock(path: &Path) -> io::Result<Locked> {
+    match by_lock(path)? {
+        Some(locked) => Ok(locked),
+        None => by_lock_file(path, PATIENCE),
+    }
+}
+
+/// By the lock on the file itself; none where it cannot be locked.
+fn by_lock(path: &Path) -> io::Result<Option<Locked>> {
     for _ in 0..MOST_TURNS {
-        needs_lock_file |= is_there(&lock_file_of(path));
-        if needs_lock_file && lock_file.is_none() {
-            lock_file = Some(LockFile::make(path, patience)?);
-        }
         let file = open(path)?;
-        let is_locked = wait(&file, path);
-        // Whoever has a lock gives it up before the wait for a lock file, so that no two edits wait for each other.
-        needs_lock_file |= !is_locked || is_there(&lock_file_of(path));
-        if needs_lock_file && lock_file.is_none() {
-            continue;
+        match try_lock(&file) {
+            Lock::Ours => {}
+            Lock::Useless => return Ok(None),
+            Lock::Others => {
+                tell_of_waiting(path);
+                file.lock()?;
+            }
         }
         let about = file.metadata()?;
         // An edit before this one may have put another file in its place.
         if identity(&about) == identity(&fs::metadata(path)?) {
-            return Ok(Locked { file, about, path: path.to_path_buf(), lock_file });
+            return Ok(Some(Locked { file, about, path: path.to_path_buf(), lock_file: None }));
         }
     }
     Err(io::Error::other("another program keeps putting another file in its place"))
 }
 
+/// By a lock file. The wait for one and the same is limited.
+pub fn by_lock_file(path: &Path, patience: Duration) -> io::Result<Locked> {
+    let lock_file = LockFile::make(path, patience)?;
+    let file = open(path)?;
+    let about = file.metadata()?;
+    Ok(Locked { file, about, path: path.to_path_buf(), lock_file: Some(lock_file) })
+}
+
 /// Opens a file to be written anew: a regular one that the user may write.
-pub fn open(path: &Path) -> io::Result<File> {
+fn open(path: &Path) -> io::Result<File> {
     if !fs::metadata(path)?.is_file() {
         return Err(io::Error::new(ErrorKind::InvalidInput, "not a regular file"));
     }
     OpenOptions::new().read(true).write(true).custom_flags(DO_NOT_WAIT).open(path)
 }
 
-/// Waits until no other program has a file locked. Says whether it is locked now, and others are kept off.
-fn wait(file: &File, path: &Path) -> bool {
-    loop {
-        match lock(file) {
-            Lock::Ours => return true,
-            Lock::Useless => return false,
-            Lock::Others => tell_of_waiting(path),
-        }
-        if file.lock().is_err() {
-            return false;
-        }
-    }
-}
-
-/// A person at a terminal is told, once.
+/// A person at a terminal is told.
 fn tell_of_waiting(path: &Path) {
-    static TOLD: Once = Once::new();
     if io::stderr().is_terminal() {
-        TOLD.call_once(|| tell(format_args!("{}: waiting until another edit is done", shown(path))));
+        tell(format_args!("{}: waiting until another edit is done", shown(path)));
     }
 }
 
 /// Who has the lock on a file.
 pub enum Lock {
-    /// This program, and it keeps others off.
+    /// This program.
     Ours,
     Others,
-    /// Nobody can tell: locks do not work there, or not between machines.
+    /// Nobody can tell: locks do not work there.
     Useless,
 }
 
 /// Locks an open file, if no other program has it locked.
-pub fn lock(file: &File) -> Lock {
-    if is_remote(file) {
-        return Lock::Useless;
-    }
+pub fn try_lock(file: &File) -> Lock {
     match file.try_lock() {
+        Ok(()) => Lock::Ours,
         Err(TryLockError::WouldBlock) => Lock::Others,
-        Ok(()) if keeps_others_off(file) => Lock::Ours,
-        _ => Lock::Useless,
+        Err(TryLockError::Error(_)) => Lock::Useless,
     }
-}
-
-/// Whether the lock on a file is one: the file, opened once more, cannot be locked.
-fn keeps_others_off(file: &File) -> bool {
-    let path = format!("/proc/self/fd/{}", file.as_raw_fd());
-    let again = OpenOptions::new().read(true).custom_flags(DO_NOT_WAIT).open(path);
-    again.is_ok_and(|again| matches!(again.try_lock(), Err(TryLockError::WouldBlock)))
-}
-
-/// File systems whose folders other machines may have too, by the numbers that `statfs` gives them. A lock there may be unknown
-/// to the others, and FUSE may be any of them.
-const REMOTE: [(u32, &str); 24] = [
-    (0x0000_517b, "SMB"),
-    (0x0000_564c, "NCP"),
-    (0x0000_6969, "NFS"),
-    (0x00c3_6400, "Ceph"),
-    (0x0102_1997, "9P"),
-    (0x0116_1970, "GFS2"),
-    (0x0131_11a8, "IBRIX"),
-    (0x0bd0_0bd0, "Lustre"),
-    (0x1983_0326, "BeeGFS"),
-    (0x2003_0528, "OrangeFS"),
-    (0x4750_4653, "GPFS"),
-    (0x5346_414f, "AFS"),
-    (0x6163_6673, "ACFS"),
-    (0x6573_5546, "FUSE"),
-    (0x6b41_4653, "AFS of the kernel"),
-    (0x7375_7245, "Coda"),
-    (0x7461_636f, "OCFS2"),
-    (0x786f_4256, "VirtualBox"),
-    (0x7c7c_6673, "Parallels"),
-    (0xaad7_aaea, "PanFS"),
-    (0xbacb_acbc, "VMware"),
-    (0xbeef_dead, "StorNext"),
-    (0xfe53_4d42, "SMB2"),
-    (0xff53_4d42, "CIFS"),
-];
-
-extern "C" {
-    fn fstatfs(file: c_int, about: *mut c_long) -> c_int;
-}
-
-/// Whether other machines may have a file's folder, as far as is known.
-fn is_remote(file: &File) -> bool {
-    // More room than any system fills. The first number is the kind.
-    let mut about = [0; 64];
-    let answer = unsafe { fstatfs(file.as_raw_fd(), about.as_mut_ptr()) };
-    answer != 0 || REMOTE.iter().any(|(kind, _)| *kind == about[0] as u32)
 }
 
 /// A file beside the one that is edited, made by this program.
@@ -194,6 +134,7 @@ impl LockFile {
         for look in 0.. {
             let deferred = Deferred::new();
             match OpenOptions::new().write(true).create_new(true).mode(0o644).open(&lock_file) {
+                Err(e) if e.kind() == ErrorKind::AlreadyExists && look > 0 => {}
                 Err(e) if e.kind() == ErrorKind::AlreadyExists => tell_of_waiting(path),
                 Err(e) => return Err(none_beside(e)),
                 Ok(mut file) => {
@@ -301,10 +242,6 @@ pub fn none_beside(e: io::Error) -> io::Error {
     io::Error::new(e.kind(), format!("no file can be made beside it: {e}"))
 }
 
-fn is_there(path: &Path) -> bool {
-    fs::symlink_metadata(path).is_ok()
-}
-
 /// Whether a path names an open file.
 pub fn is_at(file: &File, path: &Path) -> bool {
     let about = file.metadata().and_then(|open| Ok((open, fs::symlink_metadata(path)?)));
@@ -339,14 +276,10 @@ pub mod tests {
         names
     }
 
-    pub fn taken(path: &Path) -> Locked {
-        take(path, false, PATIENCE).unwrap()
-    }
-
     #[test]
     fn a_lock_file_says_whose_it_is_and_goes_with_the_turn() {
         let path = file("whose");
-        let locked = take(&path, true, PATIENCE).unwrap();
+        let locked = by_lock_file(&path, PATIENCE).unwrap();
         assert!(locked.has_lock_file() && locked.has_turn());
         assert_eq!(names(&path), [".hdf4-file.lock", "file"]);
         let line = fs::read_to_string(path.with_file_name(".hdf4-file.lock")).unwrap();
@@ -366,13 +299,10 @@ pub mod tests {
             let path = file(test);
             let lock_file = path.with_file_name(".hdf4-file.lock");
             fs::write(&lock_file, line).unwrap();
-            for needs_lock_file in [false, true] {
-                let Err(e) = take(&path, needs_lock_file, SHORT) else { panic!("it has not waited") };
-                let expected =
-                    format!("its lock file {} was made by {maker} and has been there for 0 seconds; ", shown(&lock_file));
-                assert_eq!(e.to_string(), expected + "it may be removed if no edit runs");
-                assert_eq!(fs::read_to_string(&lock_file).unwrap(), line);
-            }
+            let Err(e) = by_lock_file(&path, SHORT) else { panic!("it has not waited") };
+            let expected = format!("its lock file {} was made by {maker} and has been there for 0 seconds; ", shown(&lock_file));
+            assert_eq!(e.to_string(), expected + "it may be removed if no edit runs");
+            assert_eq!(fs::read_to_string(&lock_file).unwrap(), line);
             end(&path);
         }
     }
@@ -395,7 +325,7 @@ pub mod tests {
                 fs::remove_file(&lock_file).unwrap();
             }
         });
-        assert!(take(&path, false, patience).unwrap().has_lock_file());
+        assert!(by_lock_file(&path, patience).unwrap().has_turn());
         others.join().unwrap();
         assert_eq!(names(&path), ["file"]);
         end(&path);
@@ -405,7 +335,7 @@ pub mod tests {
     fn the_lock_file_of_another_edit_is_not_removed() {
         let path = file("stolen");
         let lock_file = path.with_file_name(".hdf4-file.lock");
-        let locked = take(&path, true, PATIENCE).unwrap();
+        let locked = by_lock_file(&path, PATIENCE).unwrap();
         fs::remove_file(&lock_file).unwrap();
         assert!(!locked.has_turn());
         fs::write(&lock_file, "another").unwrap();
@@ -420,7 +350,7 @@ pub mod tests {
         let path = file("long");
         let long = path.with_file_name("x".repeat(255));
         fs::rename(&path, &long).unwrap();
-        assert!(take(&long, true, PATIENCE).unwrap().has_turn());
+        assert!(by_lock_file(&long, PATIENCE).unwrap().has_turn());
         assert_eq!(names(&long), ["x".repeat(255)]);
         end(&path);
     }

@@ -139,22 +139,6 @@ fn an_edit_that_cannot_be_told_of_is_done_all_the_same() {
 }
 
 #[test]
-fn a_standard_output_that_is_closed_is_told_before_anything_is_done() {
-    let folder = Folder::new("closed");
-    let path = folder.copy_of("mixed.hdf");
-    let before = fs::read(&path).unwrap();
-    for words in ["list \"$1\"", "read \"$1\" 302 2", "help", "--version", "add \"$1\" 40000 5 /dev/null", "undo \"$1\""] {
-        let script = format!("\"$0\" {words} >&-");
-        let (_, message) = ended_as(3, Command::new("bash").args(["-c", &script, env!("CARGO_BIN_EXE_hdf4"), text(&path)]));
-        assert_eq!(message, "hdf4: standard output: it is closed, so nothing was done\n");
-        assert_eq!(fs::read(&path).unwrap(), before);
-    }
-    // A closed standard input is no fault of what does not read it.
-    let script = "\"$0\" list \"$1\" <&-";
-    ended_as(0, Command::new("bash").args(["-c", script, env!("CARGO_BIN_EXE_hdf4"), text(&path)]));
-}
-
-#[test]
 fn a_reader_who_has_enough_is_no_fault() {
     let folder = Folder::new("pipe");
     let (path, data) = (folder.copy_of("empty.hdf"), folder.holding("data", &vec![0x2a; 1 << 20]));
@@ -205,25 +189,4 @@ fn a_terminal_tells_that_an_edit_waits() {
     release.join().unwrap();
     assert_eq!(status, 0);
     assert!(seen.contains("waiting until another edit is done\n"), "{seen}");
-}
-
-/// Once, though it waits for a lock file and for a lock.
-#[test]
-fn a_terminal_tells_once_that_an_edit_waits() {
-    let folder = Folder::new("waits-once");
-    let path = folder.copy_of("empty.hdf");
-    let (held, lock_file) = (File::open(&path).unwrap(), folder.holding(".hdf4-empty.hdf.lock", b""));
-    held.lock().unwrap();
-    let release = std::thread::spawn(move || {
-        std::thread::sleep(std::time::Duration::from_millis(100));
-        fs::remove_file(lock_file).unwrap();
-        std::thread::sleep(std::time::Duration::from_millis(100));
-        drop(held);
-    });
-    let mut command = program();
-    command.args(["add", text(&path), "40000", "5", "/dev/null"]).stdin(Stdio::null());
-    let (status, seen) = on_a_terminal(&mut command);
-    release.join().unwrap();
-    assert_eq!(status, 0);
-    assert_eq!(seen.matches("waiting until another edit is done\n").count(), 1, "{seen}");
 }

@@ -227,8 +227,8 @@ fn a_refused_edit_leaves_no_file() {
     assert_eq!(folder.names(), ["elements.hdf"]);
 }
 
-/// Calls as other systems have them. A call answers an error with the number that its variable has, and 0 does nothing; the
-/// variable of `fstatfs` has the kind of file system, and with that of `fsync` the disk is slow.
+/// Calls as other systems have them. A call answers an error with the number that its variable has, and with that of `fsync` the disk
+/// is slow.
 const IMITATION: &str = r#"
 #define _GNU_SOURCE
 #include <errno.h>
@@ -236,22 +236,18 @@ const IMITATION: &str = r#"
 #include <sys/syscall.h>
 #include <unistd.h>
 
-static int imitated(const char *variable, int *answer) {
+static int fails(const char *variable) {
     const char *number = getenv(variable);
-    if (!number) return 0;
-    errno = atoi(number);
-    *answer = errno ? -1 : 0;
-    return 1;
+    if (number) errno = atoi(number);
+    return number != 0;
 }
 
 int flock(int file, int way) {
-    int answer;
-    return imitated("IMITATED_FLOCK", &answer) ? answer : syscall(SYS_flock, file, way);
+    return fails("IMITATED_FLOCK") ? -1 : syscall(SYS_flock, file, way);
 }
 
 int renameat2(int from_folder, const char *from, int to_folder, const char *to, unsigned way) {
-    int answer;
-    if (imitated("IMITATED_RENAMEAT2", &answer)) return answer;
+    if (fails("IMITATED_RENAMEAT2")) return -1;
     return syscall(SYS_renameat2, from_folder, from, to_folder, to, way);
 }
 
@@ -259,32 +255,22 @@ int fsync(int file) {
     if (getenv("IMITATED_FSYNC")) sleep(1);
     return syscall(SYS_fsync, file);
 }
-
-int fstatfs(int file, long *about) {
-    const char *kind = getenv("IMITATED_FSTATFS");
-    int answer = syscall(SYS_fstatfs, file, about);
-    if (kind) about[0] = strtol(kind, 0, 0);
-    return answer;
-}
 "#;
 
 const FLOCK: &str = "IMITATED_FLOCK";
 const RENAMEAT2: &str = "IMITATED_RENAMEAT2";
-const FSTATFS: &str = "IMITATED_FSTATFS";
 const FSYNC: &str = "IMITATED_FSYNC";
 
-const DOES_NOTHING: &str = "0";
 const INVALID: &str = "22";
 const NO_LOCKS: &str = "37";
 const NO_SUCH_CALL: &str = "38";
-const NFS: &str = "0x6969";
 
 /// What variables say of a system.
 type System = Vec<(&'static str, &'static str)>;
 
-/// Locks that work, that do nothing, that fail, and that other machines may not know of; each with and without an exchange.
+/// Locks that work and that fail, each with and without an exchange.
 fn systems() -> Vec<System> {
-    let locks = [None, Some((FLOCK, DOES_NOTHING)), Some((FLOCK, NO_SUCH_CALL)), Some((FLOCK, NO_LOCKS)), Some((FSTATFS, NFS))];
+    let locks = [None, Some((FLOCK, NO_SUCH_CALL)), Some((FLOCK, NO_LOCKS))];
     let renames = [None, Some((RENAMEAT2, INVALID)), Some((RENAMEAT2, NO_SUCH_CALL))];
     locks.iter().flat_map(|lock| renames.map(|rename| lock.iter().copied().chain(rename).collect())).collect()
 }
@@ -355,28 +341,25 @@ fn check_that_it_waits<T>(mut edit: Child, held: T, release: impl FnOnce(T)) {
 }
 
 #[test]
-fn an_edit_waits_for_a_lock_file_and_not_for_locks_of_a_network() {
-    let imitation = Imitation::new("network");
-    let folder = Folder::new("network");
+fn an_edit_waits_for_the_lock_or_else_for_the_lock_file() {
+    let imitation = Imitation::new("waits");
+    let folder = Folder::new("waits");
     let file = folder.copy_of("elements.hdf");
     let add = |system: &System, number: &str| {
         let words = ["add", text(&file), "50000", number, "/dev/null"];
         imitation.program(system).args(words).stdout(Stdio::null()).spawn().unwrap()
     };
-    let (local, network) = (System::new(), vec![(FSTATFS, NFS)]);
-    for (system, number) in [(&local, "1"), (&network, "2")] {
-        let lock_file = folder.holding(".hdf4-elements.hdf.lock", b"");
-        check_that_it_waits(add(system, number), lock_file, |lock_file| fs::remove_file(lock_file).unwrap());
-        assert_eq!(folder.names(), ["elements.hdf"]);
+    let (locks, no_locks) = ([vec![], vec![(RENAMEAT2, INVALID)]], vec![(FLOCK, NO_LOCKS)]);
+    for (system, number) in locks.iter().zip(["1", "2"]) {
+        let held = File::open(&file).unwrap();
+        held.lock().unwrap();
+        check_that_it_waits(add(system, number), held, drop);
     }
-    let held = File::open(&file).unwrap();
-    held.lock().unwrap();
-    assert!(add(&network, "3").wait().unwrap().success());
-    let held = File::open(&file).unwrap();
-    held.lock().unwrap();
-    check_that_it_waits(add(&vec![(RENAMEAT2, INVALID)], "4"), held, drop);
-    assert_eq!(marks(&file), 4);
-    assert_eq!(folder.names(), ["elements.hdf"]);
+    let lock_file = folder.holding(".hdf4-elements.hdf.lock", b"");
+    // Where the file can be locked, a lock file is nothing to an edit.
+    assert!(add(&locks[0], "3").wait().unwrap().success());
+    check_that_it_waits(add(&no_locks, "4"), lock_file, |lock_file| fs::remove_file(lock_file).unwrap());
+    assert_eq!((folder.names(), marks(&file)), (vec!["elements.hdf".to_string()], 4));
 }
 
 /// A person who ends an edit in the middle, while the disk is slow. One that has a lock file is done first.
@@ -386,7 +369,7 @@ fn an_edit_that_is_ended_leaves_no_lock_file() {
     for signal in ["INT", "TERM", "HUP"] {
         let folder = Folder::new("ended");
         let file = folder.copy_of("elements.hdf");
-        let system = vec![(FSTATFS, NFS), (FSYNC, "")];
+        let system = vec![(FLOCK, NO_LOCKS), (FSYNC, "")];
         let words = ["add", text(&file), "50000", "1", "/dev/null"];
         let mut edit = imitation.program(&system).args(words).stdout(Stdio::null()).spawn().unwrap();
         let lock_file = folder.path(".hdf4-elements.hdf.lock");
@@ -403,7 +386,7 @@ fn an_edit_that_is_ended_leaves_no_lock_file() {
 #[test]
 fn where_locks_tell_nothing_only_old_files_are_removed() {
     let imitation = Imitation::new("age");
-    for system in [vec![(FLOCK, DOES_NOTHING)], vec![(FLOCK, NO_LOCKS)], vec![(FSTATFS, NFS)]] {
+    for system in [vec![(FLOCK, NO_SUCH_CALL)], vec![(FLOCK, NO_LOCKS)]] {
         let folder = Folder::new("age");
         let file = folder.copy_of("elements.hdf");
         let names = [0, 1, 2, 59, 61, 120].map(|minutes| {
