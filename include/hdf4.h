@@ -2,8 +2,7 @@
  *
  * Every function returns a struct of numbers: number and place first (0 and 0 where the call is granted), then its values in order,
  * zeros where it is refused, but for the index of hdf4_copy. A slice passes as a pointer and a length, in entries of its type. A null
- * pointer is allowed exactly where the length is 0. Slices of one call may not overlap where one of them may be written to. Nothing is
- * written where a call is refused.
+ * pointer is allowed exactly where the length is 0. Nothing is written where a call is refused.
  *
  * The numbers of refusals are named below. A place counts bytes from the start of the image.
  *
