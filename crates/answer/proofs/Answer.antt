@@ -6,8 +6,11 @@ use mathlib.Core.Logic.{inl, inr}
 use mathlib.Core.Bool.{Bool, true, false}
 use mathlib.Core.List.{List, ◌∷◌}
 use lib.ListN.{replicate}
-use Rattle.answer.specs.Refusals.{SMALL}
-use Rattle.answer.specs.Answer.{Answer, grant, refuse_with, refuse, carried, refuse_carrying, nothing, refusal_with, refusal, carrying, ProperWith, Proper, unless_with, unless, in_room}
+use Rattle.answer.specs.Refusals.{SMALL, number_of}
+use Rattle.answer.specs.Answer.{Answer, grant, refuse_with, refuse, carried, refuse_carrying, nothing, refusal_with, refusal, carrying, Proper, unless_with, unless, in_room}
+use Rattle.answer.specs.Carried.{carries_none}
+use Rattle.answer.specs.declared.refusals.Rule.{Rule}
+use Rattle.answer.specs.declared.refusals.Rule.TheVariants as rule
 use Rattle.answer.specs.declared.Refusal.{Refusal}
 use Rattle.answer.specs.declared.Carrying.{Carrying}
 use Rattle.answer.proofs.Tests.{test, same?, zero?}
@@ -40,6 +43,38 @@ module _ (k n place : ℕ) (answer : Answer) where
 
 -- ---- A refusal that is returned
 
+-- every rule has a number
+pub number_positive : (r : Rule) → number_of r ≡ 0 → ⊥
+number_positive rule.TooLong = suc-ne-zero _
+number_positive rule.NotHdf = suc-ne-zero _
+number_positive rule.DirCut = suc-ne-zero _
+number_positive rule.DirLoop = suc-ne-zero _
+number_positive rule.DirOver = suc-ne-zero _
+number_positive rule.DirBig = suc-ne-zero _
+number_positive rule.BadTag = suc-ne-zero _
+number_positive rule.Outside = suc-ne-zero _
+number_positive rule.OnDirectory = suc-ne-zero _
+number_positive rule.Twice = suc-ne-zero _
+number_positive rule.Absent = suc-ne-zero _
+number_positive rule.Storage = suc-ne-zero _
+number_positive rule.Chain = suc-ne-zero _
+number_positive rule.Small = suc-ne-zero _
+number_positive rule.Record = suc-ne-zero _
+number_positive rule.Type = suc-ne-zero _
+number_positive rule.NoValue = suc-ne-zero _
+number_positive rule.Present = suc-ne-zero _
+number_positive rule.NoRoom = suc-ne-zero _
+number_positive rule.NoEdit = suc-ne-zero _
+number_positive rule.BadTrailer = suc-ne-zero _
+number_positive rule.Deep = suc-ne-zero _
+number_positive rule.NoTable = suc-ne-zero _
+number_positive rule.ShortTable = suc-ne-zero _
+number_positive rule.NoBlock = suc-ne-zero _
+number_positive rule.ShortBlock = suc-ne-zero _
+number_positive rule.TableLoop = suc-ne-zero _
+number_positive rule.NotStored = suc-ne-zero _
+number_positive rule.OtherDesk = suc-ne-zero _
+
 module _ (values : List ℕ) (n p : ℕ) where
   pub refused_is : (n ≡ 0 → ⊥) → refusal_with values n p ≡ refuse_with values n p
   refused_is z = elim (zero? n) [ inl e ↦ absurd (z e) | inr m ↦ rw m.1 ]
@@ -50,39 +85,28 @@ module _ (values : List ℕ) (n p : ℕ) where
   refused_nothing : n ≡ 0 → refusal_with values n p ≡ nothing
   refused_nothing e = rw e
 
-  -- one that is a call's answer is told by its number, its place and its values
-  module _ (answer : Answer) (placed : answer.number ≡ 0 → answer.place ≡ 0) (is : refusal_with values n p ≡ answer) where
-    answer_positive : n ≡ 0 → ⊥
-    answer_positive z = suc-ne-zero 0 (ap (λ a. a.place) (sym (refused_nothing z) ∙ is) ∙ placed (ap (λ a. a.number) (sym is) ∙ refused_number ∙ z))
-
-    answer_told : refuse_with values n p ≡ answer
-    answer_told = sym (refused_is answer_positive) ∙ is
-
 module _ (k : ℕ) (r : Refusal) where
-  pub refusal_is : (r.number ≡ 0 → ⊥) → refusal k r ≡ refuse k r.number r.place
-  refusal_is z = refused_is (replicate k 0) r.number r.place z
+  pub refusal_is : refusal k r ≡ refuse k (number_of r.rule) r.place
+  refusal_is = refl
 
-  pub refusal_number : (refusal k r).number ≡ r.number
-  refusal_number = refused_number (replicate k 0) r.number r.place
+  pub refusal_number : (refusal k r).number ≡ number_of r.rule
+  refusal_number = refl
 
   -- it is not what a granted call answers
   pub refusal_told : (values : List ℕ) → refusal k r ≡ grant values → ⊥
-  refusal_told values e =
-      let z = answer_positive (replicate k 0) r.number r.place (grant values) (λ q. refl) e in
-      z (sym refusal_number ∙ ap (λ a. a.number) e)
+  refusal_told values e = number_positive r.rule (sym refusal_number ∙ ap (λ a. a.number) e)
 
 module _ (k : ℕ) (r : Carrying) where
-  pub carrying_told : (values : List ℕ) (answer : Answer) → ProperWith values answer → carrying k r ≡ answer
-      → refuse_carrying k r.number r.place r.value ≡ answer
-  carrying_told values answer proper is = answer_told (carried k r.value) r.number r.place answer proper.granted is
+  pub carrying_told : (answer : Answer) → carrying k r ≡ answer → refuse_carrying k (number_of r.rule) r.place r.value ≡ answer
+  carrying_told answer is = is
 
 -- a value of 0 is one zero more
 carried_zero : (k : ℕ) → carried k 0 ≡ replicate (suc k) 0
 carried_zero zero = refl
 carried_zero (suc k) = ap (λ l. 0 ∷ l) (carried_zero k)
 
-pub carrying_zero : (k : ℕ) (r : Refusal) → carrying k (record { number = r.number; place = r.place; value = 0 }) ≡ refusal (suc k) r
-carrying_zero k r = ap (λ l. refusal_with l r.number r.place) (carried_zero k)
+pub carrying_zero : (k : ℕ) (r : Refusal) → carrying k (carries_none r) ≡ refusal (suc k) r
+carrying_zero k r = ap (λ l. refuse_with l (number_of r.rule) r.place) (carried_zero k)
 
 -- ---- The shape of answers
 
@@ -93,8 +117,8 @@ module _ (k : ℕ) where
   pub proper_refuse : (n p : ℕ) → (n ≡ 0 → ⊥) → Proper k (refuse k n p)
   proper_refuse n p z = record { granted = λ e. absurd (z e); refused = λ h. refl }
 
-  pub proper_refusal : (r : Refusal) → (r.number ≡ 0 → ⊥) → Proper k (refusal k r)
-  proper_refusal r z = rw (refusal_is k r z) (proper_refuse r.number r.place z)
+  pub proper_refusal : (r : Refusal) → Proper k (refusal k r)
+  proper_refusal r = rw (refusal_is k r) (proper_refuse (number_of r.rule) r.place (number_positive r.rule))
 
   pub proper_unless : (n place : ℕ) (answer : Answer) → Proper k answer → Proper k (unless k n place answer)
   unfolding unless_with
@@ -106,12 +130,8 @@ module _ (k : ℕ) where
   proper_room enough answer h = proper_unless _ 0 answer h
 
   -- a refusal that is a call's answer is told by its number, its place and zeros
-  module _ (r : Refusal) (answer : Answer) (proper : Proper k answer) (is : refusal k r ≡ answer) where
-    pub told_positive : r.number ≡ 0 → ⊥
-    told_positive z = answer_positive (replicate k 0) r.number r.place answer proper.granted is z
-
-    pub told : refuse k r.number r.place ≡ answer
-    told = answer_told (replicate k 0) r.number r.place answer proper.granted is
+  pub told : (r : Refusal) (answer : Answer) → refusal k r ≡ answer → refuse k (number_of r.rule) r.place ≡ answer
+  told r answer is = sym (refusal_is k r) ∙ is
 
 -- ---- What is lent
 

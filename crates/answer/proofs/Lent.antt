@@ -3,10 +3,11 @@ use Prim.Native.Nat.{ℕ, zero, suc}
 use mathlib.Core.Path.{◌≡◌, refl, sym, ap, ◌∙◌}
 use mathlib.Core.List.{List, ◌++◌}
 use lib.ListN.{length, drop, replicate}
-use Rattle.answer.specs.Answer.{Answer, grant, refuse_with, refuse, refusal_with, refusal}
+use Rattle.answer.specs.Refusals.{number_of}
+use Rattle.answer.specs.Answer.{Answer, grant, refuse_with, refuse, refusal}
 use Rattle.answer.specs.declared.Refusal.{Refusal}
 use Rattle.answer.specs.Lent.{laid_over, Does}
-use Rattle.answer.proofs.Answer.{refused_is}
+use Rattle.answer.proofs.Answer.{number_positive}
 
 module _ {A : Type 0} (answer : Answer) (given lent : List A) where
   pub laid_refused : (answer.number ≡ 0 → ⊥) → laid_over answer given lent ≡ lent
@@ -22,11 +23,11 @@ module _ {A : Type 0} (answer : Answer) (given lent : List A) where
   laid_granted e = rw (laid_over, e)
 
   -- a refusal leaves the memory
-  pub refuses_with : (values : List ℕ) (n p : ℕ) → answer ≡ refuse_with values n p → (n ≡ 0 → ⊥) → Does answer given lent lent (refusal_with values n p)
-  refuses_with values n p e z = record { answers = refused_is values n p z ∙ sym e; leaves = sym (laid_refused (λ q. z (sym (ap (λ a. a.number) e) ∙ q))) }
+  pub refuses_with : (values : List ℕ) (n p : ℕ) → answer ≡ refuse_with values n p → (n ≡ 0 → ⊥) → Does answer given lent lent (refuse_with values n p)
+  refuses_with values n p e z = record { answers = sym e; leaves = sym (laid_refused (λ q. z (sym (ap (λ a. a.number) e) ∙ q))) }
 
-  pub refuses : (k : ℕ) (r : Refusal) → answer ≡ refuse k r.number r.place → (r.number ≡ 0 → ⊥) → Does answer given lent lent (refusal k r)
-  refuses k r e z = refuses_with (replicate k 0) r.number r.place e z
+  pub refuses : (k : ℕ) (r : Refusal) → answer ≡ refuse k (number_of r.rule) r.place → Does answer given lent lent (refusal k r)
+  refuses k r e = refuses_with (replicate k 0) (number_of r.rule) r.place e (number_positive r.rule)
 
   -- what is given lies at its front
   pub grants : (values : List ℕ) → answer ≡ grant values → (after : List A) → after ≡ given ++ drop (length given) lent → Does answer given lent after (grant values)

@@ -1,6 +1,6 @@
 -- What a call answers, in the numbers of documents 01 and 02. Assumes nothing.
 use Rattle.std.specs.Prelude.{ℕ, zero, suc, ◌≡◌, List, [], ◌∷◌, ◌++◌, Bool, replicate}
-use Rattle.answer.specs.Refusals.{SMALL}
+use Rattle.answer.specs.Refusals.{SMALL, number_of}
 use Rattle.answer.specs.Search.{must}
 use Rattle.answer.specs.declared.Refusal.{Refusal}
 use Rattle.answer.specs.declared.Carrying.{Carrying}
@@ -40,10 +40,10 @@ abbrev pub refusal_with : List ℕ → ℕ → ℕ → Answer
 refusal_with values number place = elim number [ zero ↦ nothing | suc n ↦ refuse_with values (suc n) place ]
 
 abbrev pub refusal : ℕ → Refusal → Answer
-refusal k r = refusal_with (replicate k 0) r.number r.place
+refusal k r = refuse k (number_of r.rule) r.place
 
 abbrev pub carrying : ℕ → Carrying → Answer
-carrying k r = refusal_with (carried k r.value) r.number r.place
+carrying k r = refuse_carrying k (number_of r.rule) r.place r.value
 
 -- ---- Shape
 

@@ -4,3 +4,4 @@ pub mod Links
 pub mod Answer
 pub mod Lent
 pub mod Rules
+pub mod Carried

@@ -1,5 +1,7 @@
 -- The refusal numbers, by their names: the table of documents 01 and 02. Assumes nothing.
-use Rattle.std.specs.Prelude.{ℕ}
+use Rattle.std.specs.Prelude.{ℕ, Result, Ok, Err}
+use Rattle.answer.specs.declared.refusals.Rule.{Rule}
+use Rattle.answer.specs.declared.refusals.Rule.TheVariants as rule
 
 abbrev pub TOO_LONG : ℕ
 TOO_LONG = 1
@@ -87,3 +89,40 @@ NOT_STORED = 29
 
 abbrev pub OTHER_DESK : ℕ
 OTHER_DESK = 30
+
+-- the number of a rule
+abbrev pub number_of : Rule → ℕ
+number_of rule.TooLong = TOO_LONG
+number_of rule.NotHdf = NOT_HDF
+number_of rule.DirCut = DIR_CUT
+number_of rule.DirLoop = DIR_LOOP
+number_of rule.DirOver = DIR_OVER
+number_of rule.DirBig = DIR_BIG
+number_of rule.BadTag = BAD_TAG
+number_of rule.Outside = OUTSIDE
+number_of rule.OnDirectory = ON_DIRECTORY
+number_of rule.Twice = TWICE
+number_of rule.Absent = ABSENT
+number_of rule.Storage = STORAGE
+number_of rule.Chain = CHAIN
+number_of rule.Small = SMALL
+number_of rule.Record = RECORD
+number_of rule.Type = TYPE
+number_of rule.NoValue = NO_VALUE
+number_of rule.Present = PRESENT
+number_of rule.NoRoom = NO_ROOM
+number_of rule.NoEdit = NO_EDIT
+number_of rule.BadTrailer = BAD_TRAILER
+number_of rule.Deep = DEEP
+number_of rule.NoTable = NO_TABLE
+number_of rule.ShortTable = SHORT_TABLE
+number_of rule.NoBlock = NO_BLOCK
+number_of rule.ShortBlock = SHORT_BLOCK
+number_of rule.TableLoop = TABLE_LOOP
+number_of rule.NotStored = NOT_STORED
+number_of rule.OtherDesk = OTHER_DESK
+
+-- the number of the rule that a test found broken, 0 where it found none
+abbrev pub fault_of : {A : Type 0} → Result A Rule → ℕ
+fault_of (Ok x) = 0
+fault_of (Err r) = number_of r

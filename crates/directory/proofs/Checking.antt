@@ -10,19 +10,14 @@ use Rattle.answer.specs.Answer.{Answer, grant, refuse}
 use Rattle.answer.specs.Links.{link_after}
 use Rattle.answer.specs.Search.{any}
 use Rattle.marks.specs.Marks.{marked}
-use Rattle.directory.specs.Blocks.{slot_count, next_block, block_end}
+use Rattle.directory.specs.Blocks.{slot_count, next_block}
 use Rattle.directory.specs.Slots.{tag_at, base_tag, clash, element_fault, slot_fault, rows}
 use Rattle.directory.specs.Opening.{slots_from}
 use Rattle.directory.specs.Rules.{Live}
 use Rattle.directory.specs.Links.{slots_after, block_after, blocks_after}
-use Rattle.directory.specs.Steps.Chains.{Laid}
 use Rattle.directory.specs.Steps.Keys.{Keyed, mark_at}
 use Rattle.directory.specs.Steps.Doubts.{slot_at, earlier_of, Sound, Undoubted}
-use Rattle.directory.specs.Steps.Gaps.{Placed}
-use Rattle.directory.specs.Steps.Checks.{Reached, Checks}
-use Rattle.directory.specs.declared.Checked.{Checked}
-use Rattle.directory.specs.declared.gap.Gap.{Gap}
-use Rattle.directory.specs.declared.chain.Shape.{Shape}
+use Rattle.directory.specs.Steps.Checks.{Reached}
 use Rattle.directory.specs.declared.key.Key.{Key}
 use Rattle.answer.proofs.Links.{link_next, link_none}
 use Rattle.answer.proofs.Tests.{or_either, or_clear, not_both}
@@ -126,13 +121,13 @@ pub record Searching (s : List ℕ) (k i p earlier left : ℕ) : Type 0 where
   pub decides : any (clash s p) (earlier_of s k i) ≡ any (clash s p) (slots_after s left earlier)
 
 module _ (s : List ℕ) (k i p : ℕ) where
-  pub search_all : any (clash s p) (rows (block_after s k 4 + 6) i) ≡ false → Searching s k i p 4 k
-  search_all own =
+  pub search_all : (n : ℕ) → n ≡ k → any (clash s p) (rows (block_after s k 4 + 6) i) ≡ false → Searching s k i p 4 n
+  search_all n all own =
       record {
         upto = omega arith;
         low = omega arith;
-        at = λ h. link_none (next_block s) (k - k) 4 (omega arith);
-        decides = any_append (clash s p) (slots_after s k 4) (rows (block_after s k 4 + 6) i) ∙ rw own (or-false (any (clash s p) (slots_after s k 4)));
+        at = λ h. link_none (next_block s) (k - n) 4 (omega arith);
+        decides = any_append (clash s p) (slots_after s k 4) (rows (block_after s k 4 + 6) i) ∙ rw (own, all) (or-false (any (clash s p) (slots_after s k 4)));
       }
 
   search_none : any (clash s p) (earlier_of s k i) ≡ false → Searching s k i p 4 0
@@ -156,22 +151,16 @@ module _ (s : List ℕ) (k i p : ℕ) where
       pub search_hit : any (clash s p) (rows (earlier + 6) (slot_count s earlier)) ≡ true → any (clash s p) (earlier_of s k i) ≡ true
       search_hit h = w.decides ∙ parts ∙ any_append (clash s p) _ _ ∙ or_either _ _ (inl h)
 
-      pub search_next : any (clash s p) (rows (earlier + 6) (slot_count s earlier)) ≡ false → next_block s earlier < 4294967296 → Searching s k i p (next_block s earlier) (left - 1)
-      search_next h low =
-          let n : k - (left - 1) ≡ k - left + 1 = omega (arith, w.upto) in
+      pub search_next : any (clash s p) (rows (earlier + 6) (slot_count s earlier)) ≡ false → next_block s earlier < 4294967296
+          → (n : ℕ) → n ≡ left - 1 → Searching s k i p (next_block s earlier) n
+      search_next h low n less =
+          let m : k - n ≡ k - left + 1 = omega (arith, w.upto) in
           record {
             upto = omega (arith, w.upto);
             low = low;
-            at = λ q. rw n (link_next (next_block s) (k - left) 4 ∙ ap (next_block s) (w.at more));
-            decides = w.decides ∙ parts ∙ any_append (clash s p) (rows (earlier + 6) (slot_count s earlier)) (slots_after s (left - 1) (next_block s earlier)) ∙ rw h refl;
+            at = λ q. rw m (link_next (next_block s) (k - left) 4 ∙ ap (next_block s) (w.at more));
+            decides = w.decides ∙ parts ∙ any_append (clash s p) (rows (earlier + 6) (slot_count s earlier)) (slots_after s (left - 1) (next_block s earlier)) ∙ rw (h, less) refl;
           }
-
--- an earlier block lies inside the image
-pub search_inside : (s : List ℕ) (c : Shape) (k i p earlier left : ℕ) → Laid s c → k < c.blocks → Searching s k i p earlier left → 0 < left → block_end s earlier ≤ length s
-search_inside s c k i p earlier left laid few w more =
-    let below = laid.below (k - left) (omega arith) in
-    let e : block_end s earlier ≤ c.top = rw (w.at more) at below in
-    omega (arith, laid.inside)
 
 -- ---- Where there is no doubt
 
@@ -191,7 +180,7 @@ module _ (s doubts : List ℕ) (blocks k i p : ℕ) (is : p ≡ slot_at s k i) (
 
   pub search_start : (n : ℕ) → (n ≡ k) ⊎ ((n ≡ 0) × (key.kind ≡ 107 → ⊥) × Undoubted doubts key)
       → any (clash s p) (rows (block_after s k 4 + 6) i) ≡ false → Searching s k i p 4 n
-  search_start n (inl e) h = rw e (search_all s k i p h)
+  search_start n (inl e) h = search_all s k i p n e h
   search_start n (inr q) h = rw q.0 (search_none s k i p (undoubted q.1 q.2))
 
   -- a hit among fewer slots of the same block
@@ -211,13 +200,3 @@ pub reached_all : (s : List ℕ) (blocks live : ℕ) → Reached s blocks blocks
 unfolding slots_from
 reached_all s blocks live w =
     sym w.answers ∙ ap (λ l. slots_from s (blocks_after s blocks 4) (slots_after s blocks 4) l live) (slots_zero s (blocks - blocks) (block_after s blocks 4) (omega arith))
-
--- ---- What the slots of a block came to
-
-module _ (s : List ℕ) (blocks k : ℕ) (fault place live : ℕ) (gap : Gap) (placed : Placed s blocks gap) (r : Checked)
-    (is : r ≡ record { fault = fault; place = place; live = live; gap = gap }) where
-  pub checks_passed : fault ≡ 0 → Reached s blocks (k + 1) live → Checks s blocks k r
-  checks_passed z reached = rw is (record { bad = λ h. absurd (h z); good = λ h. reached; placed = placed })
-
-  pub checks_broken : (fault ≡ 0 → ⊥) → whole s blocks ≡ refuse 3 fault place → Checks s blocks k r
-  checks_broken z e = rw is (record { bad = λ h. e; good = λ h. absurd (z h); placed = placed })

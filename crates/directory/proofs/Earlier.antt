@@ -1,5 +1,5 @@
 -- The slots before one, slot by slot and block by block. Assumes nothing.
-use Prim.Native.Nat.{ℕ, zero, suc, ◌+◌, ◌*◌, ◌≤◌, ◌<◌}
+use Prim.Native.Nat.{ℕ, zero, suc, ◌+◌, ◌*◌}
 use native.Mathlib.Omega.{arith}
 use native.Mathlib.Numerals.{add-one}
 use mathlib.Core.Path.{◌≡◌, refl, sym, ap, ◌∙◌}
@@ -8,21 +8,14 @@ use mathlib.Core.List.{List, [], ◌∷◌, ◌++◌, append_assoc, append-nil}
 use mathlib.Core.Bool.{Bool, true, false, ◌||◌}
 use Rattle.answer.specs.Search.{any, In}
 use Rattle.answer.specs.Links.{link_after}
-use Rattle.directory.specs.Blocks.{slot_count, next_block, block_end}
+use Rattle.directory.specs.Blocks.{slot_count, next_block}
 use Rattle.directory.specs.Slots.{rows}
 use Rattle.directory.specs.Links.{slots_after, block_after}
-use Rattle.directory.specs.Steps.Chains.{Laid, InChain}
 use Rattle.directory.specs.Steps.Doubts.{slot_at, earlier_of}
-use Rattle.directory.specs.declared.chain.Shape.{Shape}
 use Rattle.answer.proofs.Links.{link_next}
 use Rattle.answer.proofs.Tests.{in_snoc}
 
 -- ---- A block of the chain
-
--- it lies inside the image
-pub in_chain : (s : List ℕ) (c : Shape) (k b : ℕ) → Laid s c → block_after s k 4 ≡ b → k < c.blocks → InChain s c.blocks k b
-in_chain s c k b w at more =
-    record { more = more; at = at; whole = let e : block_end s b ≤ c.top = rw at at (w.below k more) in omega (arith, w.inside) }
 
 pub next_at : (s : List ℕ) (k b : ℕ) → block_after s k 4 ≡ b → block_after s (k + 1) 4 ≡ next_block s b
 next_at s k b at = link_next (next_block s) k 4 ∙ ap (next_block s) at

@@ -1,12 +1,13 @@
 -- Slots that clash, from the first four bytes of each as one number. Assumes nothing.
-use Prim.Native.Nat.{ℕ, suc, ◌+◌, ◌*◌, ◌-◌, ◌/◌, ◌%◌, ◌≤◌, ◌<◌}
+use Prim.Native.Nat.{ℕ, zero, suc, ◌+◌, ◌*◌, ◌-◌, ◌/◌, ◌%◌, ◌≤◌, ◌<◌}
 use native.Mathlib.Omega.{arith}
 use mathlib.Core.Path.{◌≡◌, refl, sym, ap, ◌∙◌}
 use mathlib.Core.Logic.{◌⊎◌, inl, inr}
 use mathlib.Core.List.{List, [], ◌∷◌}
-use mathlib.Core.Bool.{Bool, true, false}
+use mathlib.Core.Bool.{Bool, true, false, ◌||◌}
 use lib.Dec.{ltb, eqb}
 use borrow.Author.Tests.{ltb-true, ltb-false, eq-eqb, ne_eqb}
+use Rattle.std.specs.List.{list_any, range_with_len}
 use Rattle.answer.specs.Search.{any}
 use Rattle.wire.specs.Numbers.{be, Bytes}
 use Rattle.wire.specs.declared.ByteOrder.TheVariants.{BigEndian}
@@ -157,21 +158,39 @@ unfolding any
 any_same f g h [] = refl
 any_same f g h (x ∷ l) = rw (h x, any_same f g h l)
 
-module _ (f : ℕ → Bool) (q left : ℕ) where
-  pub rows_end : left ≤ 0 → any f (rows q left) ≡ false
+module _ (f : ℕ → Bool) where
+  pub rows_end : (q left : ℕ) → left ≤ 0 → any f (rows q left) ≡ false
   unfolding rows
-  rows_end h = let e : left ≡ 0 = omega arith in ap (λ n. any f (rows q n)) e ∙ any_nil f
+  rows_end q left h = let e : left ≡ 0 = omega arith in ap (λ n. any f (rows q n)) e ∙ any_nil f
 
-  module _ (more : 0 < left) where
-    step : rows q left ≡ q ∷ rows (q + 12) (left - 1)
+  -- a search from slot i on
+  module _ (q count i : ℕ) (more : i < count) where
+    step : rows (q + 12 * i) (count - i) ≡ (q + 12 * i) ∷ rows (q + 12 * (i + 1)) (count - (i + 1))
     unfolding rows
-    step = let e : left ≡ suc (left - 1) = omega arith in ap (rows q) e
+    step =
+        let n : count - i ≡ suc (count - (i + 1)) = omega arith in
+        let next : q + 12 * i + 12 ≡ q + 12 * (i + 1) = omega arith in
+        ap (rows (q + 12 * i)) n ∙ ap (λ p. (q + 12 * i) ∷ rows p (count - (i + 1))) next
 
-    pub rows_hit : f q ≡ true → any f (rows q left) ≡ true
-    rows_hit h = rw step (any_here f q (rows (q + 12) (left - 1)) h)
+    pub rows_hit : f (q + 12 * i) ≡ true → any f (rows (q + 12 * i) (count - i)) ≡ true
+    rows_hit h = rw step (any_here f _ _ h)
 
-    pub rows_next : f q ≡ false → any f (rows q left) ≡ any f (rows (q + 12) (left - 1))
-    rows_next h = rw step (any_later f q (rows (q + 12) (left - 1)) h)
+    pub rows_next : f (q + 12 * i) ≡ false → any f (rows (q + 12 * i) (count - i)) ≡ any f (rows (q + 12 * (i + 1)) (count - (i + 1)))
+    rows_next h = rw step (any_later f _ _ h)
+
+  pub rows_first : (q count : ℕ) → any f (rows (q + 12 * 0) (count - 0)) ≡ any f (rows q count)
+  rows_first q count = let first : q + 12 * 0 ≡ q = omega arith in let n : count - 0 ≡ count = omega arith in rw (first, n) refl
+
+  -- a search by the number of the slot
+  rows_from : (q i n : ℕ) → list_any (λ k. f (q + 12 * k)) (range_with_len i n) ≡ any f (rows (q + 12 * i) n)
+  unfolding rows any
+  rows_from q i zero = refl
+  rows_from q i (suc n) =
+      let next : q + 12 * (i + 1) ≡ q + 12 * i + 12 = omega arith in
+      ap (λ b. f (q + 12 * i) || b) (rows_from q (i + 1) n ∙ ap (λ p. any f (rows p n)) next)
+
+  pub rows_any : (q n : ℕ) → list_any (λ k. f (q + 12 * k)) (range_with_len 0 n) ≡ any f (rows q n)
+  rows_any q n = let first : q + 12 * 0 ≡ q = omega arith in rows_from q 0 n ∙ ap (λ p. any f (rows p n)) first
 
 module _ (s : List ℕ) (bytes : Bytes s) (p : ℕ) (k : Key) (w : Keyed s p k) (b : Based s p) (l : List ℕ) where
   pub lone_among : k.kind ≡ 107 → any (λ q. eqb (base_tag (tag_at s q)) 107) l ≡ any (clash s p) l

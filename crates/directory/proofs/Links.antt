@@ -20,6 +20,16 @@ unfolding links_after slots_after slot_places
 slots_along s zero b = refl
 slots_along s (suc k) b = ap (λ l. rows (b + 6) (slot_count s b) ++ l) (slots_along s k (next_block s b))
 
+-- ---- The first block of some
+
+pub blocks_none : (s : List ℕ) (k b : ℕ) → k ≡ 0 → blocks_after s k b ≡ []
+unfolding links_after
+blocks_none s k b e = ap (λ n. blocks_after s n b) e
+
+pub blocks_next : (s : List ℕ) (k b : ℕ) → (k ≡ 0 → ⊥) → blocks_after s k b ≡ b ∷ blocks_after s (k - 1) (next_block s b)
+unfolding links_after
+blocks_next s k b h = let e : k ≡ suc (k - 1) = omega arith in ap (λ n. blocks_after s n b) e
+
 -- ---- A chain that ends
 
 linked_blocks : (s : List ℕ) (b : ℕ) (bs : List ℕ) → Linked s (b ∷ bs) → blocks_after s (suc (length bs)) b ≡ b ∷ bs
@@ -63,8 +73,8 @@ module _ (s : List ℕ) (f : ℕ → Bool) (blocks b left : ℕ) (w : Following 
     pub follow_hit : f b ≡ true → any f (blocks_after s blocks 4) ≡ true
     follow_hit e = sym w.decides ∙ along_hit (next_block s) f left b more e
 
-    pub follow_next : f b ≡ false → next_block s b < 4294967296 → Following s f blocks (next_block s b) (left - 1)
-    follow_next e low = record { low = low; decides = sym (along_next (next_block s) f left b more e) ∙ w.decides }
+    pub follow_next : f b ≡ false → next_block s b < 4294967296 → (n : ℕ) → n ≡ left - 1 → Following s f blocks (next_block s b) n
+    follow_next e low n less = record { low = low; decides = rw less (sym (along_next (next_block s) f left b more e) ∙ w.decides) }
 
 -- nothing is found before a block, where the test fails of each block before it
 module _ (s : List ℕ) (f : ℕ → Bool) (blocks : ℕ) where

@@ -1,28 +1,23 @@
 -- What opening's answer tells a caller: a refusal to pass on, or the blocks, among which lookups then search. Assumes nothing.
-use Prim.Native.Nat.{ℕ, suc, ◌-◌}
-use native.Mathlib.Nat.{suc-ne-zero}
-use native.Mathlib.Omega.{arith}
+use Prim.Native.Nat.{ℕ, ◌-◌}
 use mathlib.Core.Path.{◌≡◌, sym, ap, ◌∙◌}
-use mathlib.Core.Logic.{inl, inr}
 use mathlib.Core.List.{List, [], ◌∷◌}
 use lib.ListN.{length, get_or}
 use Rattle.answer.specs.Search.{Hit, first}
 use Rattle.answer.specs.Lent.{laid_over, Does}
 use Rattle.answer.proofs.Lent.{refuses}
 use Rattle.answer.specs.Answer.{Answer, grant, refuse, refusal}
+use Rattle.std.specs.Prelude.{Result, Ok, Err}
+use Rattle.answer.specs.Refusals.{number_of}
 use Rattle.answer.specs.declared.Refusal.{Refusal}
-use Rattle.answer.proofs.Tests.{zero?}
-use Rattle.answer.proofs.Answer.{unless_passes, unless_stops, unless_passed, refusal_is, refusal_number, refusal_told}
+use Rattle.answer.proofs.Answer.{unless_passes, unless_stops, unless_passed, number_positive, refusal_is}
 use Rattle.directory.specs.Blocks.{blocks_of}
 use Rattle.directory.specs.Slots.{slot_places, slots_of}
-use Rattle.directory.specs.Opening.{opened_numbers, refusal_of, open_of, opened}
+use Rattle.directory.specs.Opening.{opened_numbers, open_of, opened}
 use Rattle.directory.specs.Links.{last_of, block_after, blocks_after}
 use Rattle.directory.specs.Lookup.{has, find, find_in}
-use Rattle.directory.specs.Rules.{Linked}
 use Rattle.directory.specs.Steps.Opens.{Opens}
 use Rattle.directory.specs.declared.Counts.{Counts}
-use Rattle.directory.specs.declared.Opened.{Opened}
-use Rattle.directory.specs.declared.Opened.TheVariants.{Accepted, Refused}
 use Rattle.directory.proofs.Links.{slots_along, linked_chain}
 use Rattle.directory.proofs.Rules.{kept_opens, opens_kept}
 
@@ -41,26 +36,9 @@ pub opened_passed : (k : ℕ) (s : List ℕ) (answer : Answer) → (opened k s a
 unfolding opened
 opened_passed k s answer e = unless_passed k _ _ answer e
 
--- no refusal has the number 0
-pub refused_number : (s : List ℕ) (n p : ℕ) → open_of s ≡ refuse 3 n p → (m : ℕ) × (n ≡ suc m)
-refused_number s n p e =
-    elim (zero? n) [
-      | inr m ↦ m
-      | inl z ↦
-          let k = opens_kept s (ap (λ a. a.number) e ∙ z) in
-          let q : ◌≡◌ {A = ℕ} 0 (length (blocks_of s)) = ap (λ a. get_or a.values 0 0) (sym e ∙ kept_opens s (blocks_of s) k) in
-          absurd (none (blocks_of s) k.linked q)
-    ]
-  where
-    none : (bs : List ℕ) → Linked s bs → 0 ≡ length bs → ⊥
-    none [] l q = l
-    none (b ∷ bs) l q = omega arith
-
 -- a refusal that opening returns
-pub refusal_opens : (s : List ℕ) (r : Refusal) → open_of s ≡ refuse 3 r.number r.place → refusal 3 r ≡ open_of s
-refusal_opens s r e =
-    let m = refused_number s r.number r.place e in
-    refusal_is 3 r (λ z. suc-ne-zero m.0 (sym m.1 ∙ z)) ∙ sym e
+pub refusal_opens : (s : List ℕ) (r : Refusal) → open_of s ≡ refuse 3 (number_of r.rule) r.place → refusal 3 r ≡ open_of s
+refusal_opens s r e = refusal_is 3 r ∙ sym e
 
 -- ---- The blocks that opening counts
 
@@ -102,33 +80,23 @@ opened_does k s blocks tag ref o answer given before after numbers d =
 
 -- ---- What a caller learns from opening's answer
 
-module _ (s : List ℕ) (o : Opened) (answers : opened_numbers o ≡ open_of s) where
-  pub accepted_with : (c : Counts) → o ≡ Accepted c → Opens s c.blocks
+module _ (s : List ℕ) (o : Result Counts Refusal) (answers : opened_numbers o ≡ open_of s) where
+  pub accepted_with : (c : Counts) → o ≡ Ok c → Opens s c.blocks
   accepted_with c e = opened_with s _ _ _ (sym answers ∙ ap opened_numbers e)
 
-  pub accepted_is : (c : Counts) → o ≡ Accepted c → open_of s ≡ grant (c.blocks ∷ c.slots ∷ c.live ∷ [])
+  pub accepted_is : (c : Counts) → o ≡ Ok c → open_of s ≡ grant (c.blocks ∷ c.slots ∷ c.live ∷ [])
   accepted_is c e = sym answers ∙ ap opened_numbers e
 
-  pub refused_positive : (r : Refusal) → o ≡ Refused r → (refusal_of o).number ≡ 0 → ⊥
-  refused_positive r e z =
-      let q : refusal 3 r ≡ open_of s = sym (ap opened_numbers e) ∙ answers in
-      let opens : (open_of s).number ≡ 0 = ap (λ a. a.number) (sym q) ∙ refusal_number 3 r ∙ sym (ap (λ x. (refusal_of x).number) e) ∙ z in
-      refusal_told 3 r _ (q ∙ kept_opens s (blocks_of s) (opens_kept s opens))
-
-  pub refused_answer : (r : Refusal) → o ≡ Refused r → open_of s ≡ refuse 3 (refusal_of o).number (refusal_of o).place
-  refused_answer r e =
-      sym answers ∙ ap opened_numbers e ∙ ap (λ x. refusal 3 (refusal_of x)) (sym e) ∙ refusal_is 3 (refusal_of o) (refused_positive r e)
+  refused_answer : (r : Refusal) → o ≡ Err r → open_of s ≡ refuse 3 (number_of r.rule) r.place
+  refused_answer r e = sym answers ∙ ap opened_numbers e ∙ refusal_is 3 r
 
   -- the refusal that the caller passes on
-  pub refused_is : (k : ℕ) (answer : Answer) (r : Refusal) → o ≡ Refused r → (x : Refusal) → x ≡ refusal_of o → opened k s answer ≡ refusal k x
-  refused_is k answer r e x is =
-      let z = refused_positive r e in
+  pub refused_is : (k : ℕ) (answer : Answer) (r : Refusal) → o ≡ Err r → opened k s answer ≡ refusal k r
+  refused_is k answer r e =
       let q = refused_answer r e in
-      opened_stops k s answer (λ h. z (sym (ap (λ a. a.number) q) ∙ h)) ∙ ap (λ a. refuse k a.number a.place) q
-      ∙ sym (refusal_is k (refusal_of o) z) ∙ ap (refusal k) (sym is)
+      opened_stops k s answer (λ h. number_positive r.rule (sym (ap (λ a. a.number) q) ∙ h)) ∙ ap (λ a. refuse k a.number a.place) q
+      ∙ sym (refusal_is k r)
 
-  pub unopened_does : {A : Type 0} (k : ℕ) (answer : Answer) (given lent : List A) (r : Refusal) → o ≡ Refused r → (x : Refusal) → x ≡ refusal_of o
-      → Does (opened k s answer) given lent lent (refusal k x)
-  unopened_does k answer given lent r e x is =
-      let z : x.number ≡ 0 → ⊥ = λ z. refused_positive r e (sym (ap (λ y. y.number) is) ∙ z) in
-      refuses (opened k s answer) given lent k x (refused_is k answer r e x is ∙ refusal_is k x z) z
+  pub unopened_does : {A : Type 0} (k : ℕ) (answer : Answer) (given lent : List A) (r : Refusal) → o ≡ Err r
+      → Does (opened k s answer) given lent lent (refusal k r)
+  unopened_does k answer given lent r e = refuses (opened k s answer) given lent k r (refused_is k answer r e ∙ refusal_is k r)

@@ -1,13 +1,12 @@
 -- A lookup that starts at a cursor and goes round: what it comes to, and that in an image that opened it finds what a lookup from the first slot
 -- on finds. Assumes nothing.
-use Prim.Native.Nat.{ℕ, suc, ◌+◌, ◌*◌, ◌<◌, ◌≤◌}
+use Prim.Native.Nat.{ℕ, ◌+◌, ◌*◌, ◌<◌, ◌≤◌}
 use native.Mathlib.Omega.{arith}
 use mathlib.Core.Path.{◌≡◌, refl, sym, ap, ◌∙◌}
 use mathlib.Core.Logic.{◌⊎◌, inl, inr}
 use mathlib.Core.List.{List, [], ◌∷◌}
 use mathlib.Core.Bool.{Bool, true, false, not, ◌&&◌}
 use lib.Dec.{leb, ltb, eqb}
-use lib.ListN.{length}
 use borrow.Author.Tests.{eqb-false, eq-eqb, ne_eqb, leb-true, lt-leb, le-leb, ltb-true, not-true}
 use Rattle.answer.specs.Search.{hit, miss, first, In}
 use Rattle.answer.proofs.Tests.{on_true, on_false, and_split, test}
@@ -36,7 +35,7 @@ pub since_nil : (f : ℕ → Bool) → since f [] ≡ []
 unfolding since
 since_nil f = refl
 
-since_first : (f : ℕ → Bool) (l : List ℕ) → head_of (since f l) ≡ first f l
+pub since_first : (f : ℕ → Bool) (l : List ℕ) → head_of (since f l) ≡ first f l
 since_first f [] = ap head_of (since_nil f) ∙ sym (first_nil f)
 since_first f (x ∷ xs) =
     elim (test (f x)) [
@@ -116,62 +115,27 @@ module _ (s : List ℕ) (c : Cursor) (l : List ℕ) (w : Stands s c l) where
   pub stands_miss : c.left ≡ 0 → head_of l ≡ miss
   stands_miss z = ap head_of (w.settled z)
 
--- what is still to be searched: the slots ahead, and the whole chain after them where it has not come to that yet
-unfoldable pub rest : List ℕ → ℕ → ℕ → ℕ → Bool → Cursor → List ℕ
-rest s blocks tag ref again at =
-    elim again [
-      | true ↦ or_else (since (has s tag ref) (ahead s at)) (since (has s tag ref) (slots_after s blocks 4))
-      | false ↦ since (has s tag ref) (ahead s at)
-    ]
+-- a search of the slots ahead
+module _ (s : List ℕ) (f : ℕ → Bool) (at : Cursor) where
+  pub ahead_found : 0 < at.left → f at.place ≡ true → since f (ahead s at) ≡ ahead s at
+  ahead_found some e = let h = ahead_here s at some in ap (since f) h ∙ since_here f _ _ e ∙ sym h
 
--- and how many slots that are, at most; one more counts for the way round
-unfoldable pub steps : List ℕ → ℕ → Bool → Cursor → ℕ
-steps s blocks again at = elim again [ true ↦ length (ahead s at) + suc (length (slots_after s blocks 4)) | false ↦ length (ahead s at) ]
+  pub ahead_passed : 0 < at.left → (next : Cursor) → Stands s next (ahead s (stepped at)) → f at.place ≡ false → since f (ahead s at) ≡ since f (ahead s next)
+  ahead_passed some next w e = ap (since f) (ahead_here s at some) ∙ since_later f _ _ e ∙ ap (since f) (sym w.is)
 
-module _ (s : List ℕ) (blocks tag ref : ℕ) where
-  pub rest_start : (from at : Cursor) → Stands s at (slots_hence s from) → resumed s blocks from tag ref ≡ rest s blocks tag ref true at
-  unfolding resumed rest
-  rest_start from at w = rw w.is
+  pub ahead_none : Stands s at (ahead s at) → at.left ≡ 0 → since f (ahead s at) ≡ ahead s at
+  ahead_none w none = ap (since f) (w.settled none) ∙ since_nil f ∙ sym (w.settled none)
 
-  -- at a slot
-  module _ (at : Cursor) (some : 0 < at.left) where
-    pub rest_here : (again : Bool) → has s tag ref at.place ≡ true → rest s blocks tag ref again at ≡ ahead s at
-    unfolding rest
-    rest_here true e =
-        let h = ahead_here s at some in
-        let l : since (has s tag ref) (ahead s at) ≡ at.place ∷ ahead s (stepped at) = ap (since (has s tag ref)) h ∙ since_here (has s tag ref) _ _ e in
-        or_first (since (has s tag ref) (ahead s at)) _ _ _ l ∙ l ∙ sym h
-    rest_here false e = let h = ahead_here s at some in ap (since (has s tag ref)) h ∙ since_here (has s tag ref) _ _ e ∙ sym h
+-- what it comes to from a cursor on, and where that is nothing, from the first slot on
+module _ (s : List ℕ) (blocks : ℕ) (from : Cursor) (tag ref : ℕ) (at : Cursor) (w : Stands s at (since (has s tag ref) (slots_hence s from))) where
+  pub resumed_here : 0 < at.left → Stands s at (resumed s blocks from tag ref)
+  unfolding resumed
+  resumed_here some = let l : since (has s tag ref) (slots_hence s from) ≡ at.place ∷ ahead s (stepped at) = sym w.is ∙ ahead_here s at some in
+      rw (or_first (since (has s tag ref) (slots_hence s from)) (since (has s tag ref) (slots_after s blocks 4)) _ _ l) w
 
-    module _ (next : Cursor) (w : Stands s next (ahead s (stepped at))) where
-      later : has s tag ref at.place ≡ false → since (has s tag ref) (ahead s at) ≡ since (has s tag ref) (ahead s next)
-      later e = ap (since (has s tag ref)) (ahead_here s at some) ∙ since_later (has s tag ref) _ _ e ∙ ap (since (has s tag ref)) (sym w.is)
-
-      pub rest_later : (again : Bool) → has s tag ref at.place ≡ false → rest s blocks tag ref again at ≡ rest s blocks tag ref again next
-      unfolding rest
-      rest_later true e = ap (λ l. or_else l (since (has s tag ref) (slots_after s blocks 4))) (later e)
-      rest_later false e = later e
-
-      pub steps_later : (again : Bool) → steps s blocks again next < steps s blocks again at
-      unfolding steps
-      steps_later true = omega (arith, ap length w.is, ap length (ahead_here s at some))
-      steps_later false = omega (arith, ap length w.is, ap length (ahead_here s at some))
-
-  -- past the last slot
-  module _ (at : Cursor) (w : Stands s at (ahead s at)) (none : at.left ≡ 0) where
-    pub rest_none : rest s blocks tag ref false at ≡ ahead s at
-    unfolding rest
-    rest_none = ap (since (has s tag ref)) (w.settled none) ∙ since_nil (has s tag ref) ∙ sym (w.settled none)
-
-    pub rest_round : (first : Cursor) → Stands s first (slots_after s blocks 4) → rest s blocks tag ref true at ≡ rest s blocks tag ref false first
-    unfolding rest
-    rest_round first v =
-        ap (λ l. or_else l (since (has s tag ref) (slots_after s blocks 4))) (ap (since (has s tag ref)) (w.settled none) ∙ since_nil (has s tag ref))
-        ∙ ap (since (has s tag ref)) (sym v.is)
-
-    pub steps_round : (first : Cursor) → Stands s first (slots_after s blocks 4) → steps s blocks false first < steps s blocks true at
-    unfolding steps
-    steps_round first v = omega (arith, ap length v.is)
+  pub resumed_round : at.left ≡ 0 → (r : Cursor) → Stands s r (since (has s tag ref) (slots_after s blocks 4)) → Stands s r (resumed s blocks from tag ref)
+  unfolding resumed
+  resumed_round none r v = rw (w.settled none) v
 
 -- ---- In a chain
 

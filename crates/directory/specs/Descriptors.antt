@@ -1,15 +1,14 @@
 -- Listing the elements of an image: the descriptors of its live slots. Document 01 has no such call; it is this library's own. Assumes nothing.
-use Rattle.std.specs.Prelude.{ℕ, ◌*◌, List, [], ◌∷◌, ◌++◌, length, leb}
+use Rattle.std.specs.Prelude.{ℕ, ◌*◌, List, [], ◌∷◌, ◌++◌, length, leb, Result, Ok, Err}
 use Rattle.answer.specs.Answer.{Answer, grant, refusal, in_room}
 use Rattle.answer.specs.Search.{keep}
 use Rattle.directory.specs.Slots.{tag_at, ref_at, offset_at, length_at, live_at, slots_of}
 use Rattle.directory.specs.Opening.{opened}
-use Rattle.directory.specs.declared.listing.Listed.{Listed}
-use Rattle.directory.specs.declared.listing.Listed.TheVariants.{Elements, Refused}
+use Rattle.answer.specs.declared.Refusal.{Refusal}
 
-abbrev pub listed_numbers : Listed → Answer
-listed_numbers (Elements n) = grant (n ∷ [])
-listed_numbers (Refused r) = refusal 1 r
+abbrev pub listed_numbers : Result ℕ Refusal → Answer
+listed_numbers (Ok n) = grant (n ∷ [])
+listed_numbers (Err r) = refusal 1 r
 
 -- tag, reference, offset and length of a slot, as they are stored
 abbrev pub descriptor : List ℕ → ℕ → List ℕ

@@ -7,3 +7,4 @@ pub mod Doubts
 pub mod Checks
 pub mod Opens
 pub mod Resuming
+pub mod Walks

@@ -11,8 +11,9 @@ ghost use Rattle.directory.specs.Steps.Doubts as Doubts;
 
 use super::chain::Shape;
 use super::format::{FREE, LONE};
+use super::key;
 use super::key::Key;
-use super::{inside, key};
+use wire::inside;
 
 // How many buckets of base tags there are: as many as the array of their highest references has.
 const BUCKETS: usize = 127;
@@ -32,11 +33,11 @@ fn raise(highest: &mut [u16; 127], key: Key) -> bool
 {
     let bucket = key.kind % BUCKETS;
     let reference = key.reference as u16;
-    if highest[bucket] < reference {
+    let below = highest[bucket] < reference;
+    if below {
         highest[bucket] = reference;
-        return true;
     }
-    false
+    below
 }
 
 // Marks the window of the slot at p, if it is live and its reference is not above the highest of its bucket so far, which is raised.
@@ -49,10 +50,9 @@ fn suspect_slot(image: &[u8], p: usize, highest: &mut [u16; 127], windows: &mut 
         return;
     }
     let key = Key::of(image, p);
-    if raise(highest, key) {
-        return;
+    if !raise(highest, key) {
+        marks::set(windows, key.mark() / WINDOW);
     }
-    marks::set(windows, key.mark() / WINDOW);
 }
 
 // The same for the slots of a block, after so many others.
@@ -68,10 +68,8 @@ fn suspect_block(
     ensures { Doubts.Suspected image.now before highest.new windows.old windows.new }
 {
     let count = inside::read16(image, b);
-    let mut i = 0;
-    while i < count {
+    for i in 0..count {
         suspect_slot(image, b + 6 + 12 * i, highest, windows);
-        i += 1;
     }
 }
 
@@ -82,11 +80,9 @@ fn suspect(image: &[u8], shape: Shape, windows: &mut [u64; 1])
 {
     let mut highest = [0; 127];
     let mut b = 4;
-    let mut before = 0;
-    while before < shape.blocks {
+    for before in 0..shape.blocks {
         suspect_block(image, shape.blocks, before, b, &mut highest, windows);
         b = inside::read32(image, b + 2);
-        before += 1;
     }
 }
 
@@ -96,20 +92,15 @@ fn clashes(image: &[u8], shape: Shape, before: usize, b: usize, i: usize) -> boo
     ensures { result ≡ false → Doubts.Alone image.now before i }
 {
     let key = Key::of(image, b + 6 + 12 * i);
-    if key.kind == FREE {
-        return true;
-    }
-    if key.is_among(image, b + 6, i) {
+    if key.kind == FREE || key.is_among(image, b + 6, i) {
         return true;
     }
     let mut earlier = 4;
-    let mut left = before;
-    while 0 < left {
+    for _passed in 0..before {
         if key.is_among(image, earlier + 6, inside::read16(image, earlier)) {
             return true;
         }
         earlier = inside::read32(image, earlier + 2);
-        left -= 1;
     }
     false
 }
@@ -132,10 +123,7 @@ fn note_slot(
 {
     let p = b + 6 + 12 * i;
     let mark = key::mark_at(image, p);
-    if mark / WINDOW != window {
-        return;
-    }
-    if inside::read16(image, p) == FREE {
+    if mark / WINDOW != window || inside::read16(image, p) == FREE {
         return;
     }
     if !marks::is_set(seen, mark % WINDOW) {
@@ -162,10 +150,8 @@ fn note_block(
     ensures { Doubts.Noted image.now before window seen.new doubts.old doubts.new }
 {
     let count = inside::read16(image, b);
-    let mut i = 0;
-    while i < count {
+    for i in 0..count {
         note_slot(image, shape, before, b, i, window, seen, doubts);
-        i += 1;
     }
 }
 
@@ -176,11 +162,9 @@ fn note(image: &[u8], shape: Shape, window: usize, doubts: &mut [u64; 8])
 {
     let mut seen = [0; 32];
     let mut b = 4;
-    let mut before = 0;
-    while before < shape.blocks {
+    for before in 0..shape.blocks {
         note_block(image, shape, before, b, window, &mut seen, doubts);
         b = inside::read32(image, b + 2);
-        before += 1;
     }
 }
 
@@ -191,12 +175,10 @@ pub(crate) fn find(image: &[u8], shape: Shape, doubts: &mut [u64; 8])
 {
     let mut windows = [0; 1];
     suspect(image, shape, &mut windows);
-    let mut window = 0;
-    while window < WINDOWS {
+    for window in 0..WINDOWS {
         if marks::is_set(&windows, window) {
             note(image, shape, window, doubts);
         }
-        window += 1;
     }
 }
 
@@ -206,11 +188,9 @@ pub(crate) fn to_search(doubts: &[u64; 8], key: Key, count: usize) -> usize
     requires { key.reference < 65536 }
     ensures { (result ≡ count) ⊎ ((result ≡ 0) × (key.kind ≡ lone_tag → ⊥) × Doubts.Undoubted doubts.now key) }
 {
-    if key.kind == LONE {
-        return count;
+    if key.kind == LONE || marks::is_set(doubts, key.mark() % DOUBTS) {
+        count
+    } else {
+        0
     }
-    if marks::is_set(doubts, key.mark() % DOUBTS) {
-        return count;
-    }
-    0
 }

@@ -6,7 +6,8 @@ ghost use Rattle.directory.specs.Slots.{tag_at, base_tag, rows, clash};
 ghost use Rattle.directory.specs.Steps.Keys.{Keyed, Based, mark_by, mark_at, is_either};
 
 use super::format::{EXTENDED_FIRST, LONE};
-use super::{inside, slot};
+use super::slot;
+use wire::inside;
 
 // How far the marks of one reference lie apart for base tags that follow each other: 65,536 by the golden ratio, so that the marks of few
 // tags with many references each seldom meet.
@@ -28,18 +29,11 @@ fn has_number(image: &[u8], from: usize, count: usize, plain: usize, extended: u
     requires { from + 12 * count ≤ length image.now }
     ensures { result ≡ any (is_either image.now plain extended) (rows from count) }
 {
-    let mut q = from;
-    let mut left = count;
-    while 0 < left {
-        let own = inside::read32(image, q);
-        if own == plain {
+    for i in 0..count {
+        let own = inside::read32(image, from + 12 * i);
+        if own == plain || own == extended {
             return true;
         }
-        if own == extended {
-            return true;
-        }
-        q += 12;
-        left -= 1;
     }
     false
 }
@@ -49,16 +43,7 @@ fn has_lone(image: &[u8], from: usize, count: usize) -> bool
     requires { from + 12 * count ≤ length image.now }
     ensures { result ≡ any (λ q. eqb (base_tag (tag_at image.now q)) lone_tag) (rows from count) }
 {
-    let mut q = from;
-    let mut left = count;
-    while 0 < left {
-        if slot::base(inside::read16(image, q)) == LONE {
-            return true;
-        }
-        q += 12;
-        left -= 1;
-    }
-    false
+    (0..count).any(|i| slot::base(inside::read16(image, from + 12 * i)) == LONE)
 }
 
 // The mark of the slot at p.
@@ -99,9 +84,11 @@ impl Key {
             return has_lone(image, from, count);
         }
         let plain = self.kind * 65536 + self.reference;
-        if self.kind < EXTENDED_FIRST {
-            return has_number(image, from, count, plain, plain + 1073741824);
-        }
-        has_number(image, from, count, plain, plain)
+        let extended = if self.kind < EXTENDED_FIRST {
+            plain + 1073741824
+        } else {
+            plain
+        };
+        has_number(image, from, count, plain, extended)
     }
 }

@@ -1,5 +1,4 @@
 pub mod Proper
-pub mod Signs
 pub mod Bits
 pub mod Tables
 pub mod TableClaims

@@ -6,7 +6,7 @@ use mathlib.Core.Logic.{inl, inr}
 use mathlib.Core.List.{List}
 use Rattle.answer.specs.Answer.{Answer, Proper}
 use Rattle.answer.specs.Search.{Hit, hit, miss}
-use Rattle.answer.proofs.Answer.{proper_grant, proper_refuse, proper_refusal, proper_unless, proper_room}
+use Rattle.answer.proofs.Answer.{refused_is, proper_grant, proper_refuse, proper_unless, proper_room}
 use Rattle.wire.specs.Numbers.{part}
 use Rattle.directory.specs.Opening.{open_of, opened}
 use Rattle.directory.specs.Lookup.{find, hit_answer, find_of}
@@ -18,9 +18,8 @@ use Rattle.storage.specs.Sizes.{size_of_stored, size_found, size_of}
 use Rattle.storage.specs.Choices.{choose_found, choose_of}
 use Rattle.storage.specs.declared.element.Element.{Element}
 use Rattle.storage.specs.declared.element.Element.TheVariants.{Absent, NotStored, Plain, Extended}
-use Rattle.storage.specs.declared.element.Located.{Located}
-use Rattle.storage.specs.declared.element.Located.TheVariants as located
-use Rattle.records.specs.Readings.{sound_in, record_at}
+use Rattle.records.specs.Readings.{Sound, sound, refused, on_sound, sound_in, record_at}
+use Rattle.std.specs.Prelude.{replicate}
 use Rattle.records.specs.Packings.{pack_of}
 use Rattle.records.specs.NumberTypes.{number_type_at, number_type_of}
 use Rattle.records.specs.Dimensions.{dimension_at, dimension_of}
@@ -63,7 +62,7 @@ size_proper s tag ref = opened_proper 1 s _ (go (element_at s (find s tag ref)))
     go : (x : Element) → Proper 1 (size_found s x)
     go Absent = proper_refuse 1 11 0 (suc-ne-zero 10)
     go (NotStored p) = proper_refuse 1 29 p (suc-ne-zero 28)
-    go (Plain p offset size) = proper_unless 1 _ _ _ (proper_grant 1 _)
+    go (Plain x) = proper_unless 1 _ _ _ (proper_grant 1 _)
     go (Extended p) = proper_unless 1 _ _ _ (proper_grant 1 _)
 
 pub list_proper : (s : List ℕ) (room : ℕ) → Proper 1 (list_of s room)
@@ -76,7 +75,7 @@ plain_proper : (k : ℕ) (answer : ℕ → ℕ → ℕ → Answer) → ((p offse
     → Proper k (on_plain k answer (plain_only x))
 plain_proper k answer h Absent = proper_refuse k 11 0 (suc-ne-zero 10)
 plain_proper k answer h (NotStored p) = proper_refuse k 29 p (suc-ne-zero 28)
-plain_proper k answer h (Plain p offset size) = h p offset size
+plain_proper k answer h (Plain x) = h x.slot x.offset x.length
 plain_proper k answer h (Extended p) = proper_refuse k 12 p (suc-ne-zero 11)
 
 pub view_proper : (s : List ℕ) (tag ref : ℕ) → Proper 2 (view_of s tag ref)
@@ -90,7 +89,7 @@ choose_proper s t tag ref = opened_proper 3 s _ (opened_proper 3 t _ (go (elemen
     go : (x y : Element) → Proper 3 (choose_found x y)
     go Absent y = plain_proper 3 _ (λ p offset size. proper_grant 3 _) y
     go (NotStored p) y = proper_refuse 3 29 p (suc-ne-zero 28)
-    go (Plain p offset size) y = proper_grant 3 _
+    go (Plain x) y = proper_grant 3 _
     go (Extended p) y = proper_refuse 3 12 p (suc-ne-zero 11)
 
 -- ---- Records
@@ -100,9 +99,11 @@ record_proper : (k : ℕ) (s : List ℕ) (found : Hit) (fault : List ℕ → ℕ
 unfolding record_at
 record_proper k s found fault answer h = go (sound_in fault s (located_at s found)) refl
   where
-    go : (l : Located) → sound_in fault s (located_at s found) ≡ l → Proper k (on_plain k (λ p offset size. answer offset (part s offset size)) l)
-    go (located.Plain p offset size) is = h offset (part s offset size)
-    go (located.Refused x) is = proper_refusal k x (sound_positive fault s found x is)
+    go : (l : Sound) → sound_in fault s (located_at s found) ≡ l → Proper k (on_sound k (λ p offset size. answer offset (part s offset size)) l)
+    go (sound x) is = h x.offset (part s x.offset x.length)
+    go (refused n p) is =
+        let z = sound_positive fault s (located_at s found) n p is in
+        rw (refused_is (replicate k 0) n p z) (proper_refuse k n p z)
 
 pub number_type_proper : (s : List ℕ) (ref : ℕ) → Proper 4 (number_type_of s ref)
 unfolding number_type_of number_type_at

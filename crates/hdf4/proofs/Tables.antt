@@ -8,60 +8,24 @@ use lib.ListN.{length, drop, set, length-set}
 use Rattle.wire.specs.Numbers.{part}
 use Rattle.directory.specs.Limits.{most_bytes}
 use Rattle.answer.specs.Lent.{laid_over}
-use Rattle.directory.specs.Lookup.{find}
 use Rattle.answer.specs.declared.Refusal.{Refusal}
-use Rattle.answer.proofs.Answer.{refusal_number, told_positive}
-use Rattle.vhead.specs.Limits.{head_tag}
+use Rattle.std.specs.Prelude.{Result, Ok, Err}
 use Rattle.vhead.specs.Heads.{head_in, head_numbers, head_within, named_field}
-use Rattle.vhead.specs.Steps.{HeadHeld}
-use Rattle.vhead.specs.declared.head.Head.{Head}
 use Rattle.vhead.specs.declared.head.NamedField.{NamedField}
-use Rattle.vhead.specs.declared.head.Answered.{Answered}
-use Rattle.vhead.specs.declared.head.Answered.TheVariants.{Values, Refused}
+use Rattle.vhead.specs.declared.head.Found.{Found}
 use Rattle.vhead.proofs.HeadsRead.{head_names_lem, name_inside}
-use Rattle.hdf4.specs.VsetAnswers.{vdata_answer, NamesFit}
+use Rattle.hdf4.specs.VsetAnswers.{NamesFit}
 use Rattle.hdf4.specs.FieldTable.{field_from, structs_from, structs_of}
 use Rattle.hdf4.specs.Steps.{Lies, ReadsFields, field_in, filled}
-use Rattle.hdf4.specs.declared.vset_calls.VdataAnswer.{VdataAnswer}
 use Rattle.hdf4.specs.declared.field_table.Field.{Field}
 use Rattle.hdf4.specs.declared.field_table.Reading.{Reading}
-use Rattle.hdf4.proofs.Proper.{head_proper}
 
 -- ---- What is read of a head
 
--- where name and class of a head that was found stand
-pub places_fit : (found : Answered) (start size : ℕ) (h : Head) → found ≡ Values start size h → NamesFit found
-    → (start + h.tail.name ≤ most_bytes) × (start + h.tail.class ≤ most_bytes)
-places_fit found start size h e n = let m : NamesFit (Values start size h) = rw e at n in m
-
 module _ (s : List ℕ) (ref room : ℕ) where
-  pub names_fit : (found : Answered) → head_numbers found ≡ head_within s ref room → NamesFit found
-  names_fit (Values start size h) e = head_names_lem s ref room start h (sym e)
-  names_fit (Refused r) e = told_positive 12 r (head_within s ref room) (head_proper s ref room) e
-
-  -- the answer of what was found
-  module _ (a : VdataAnswer) (found : Answered) (is : vdata_answer a ≡ head_numbers found) (answers : head_numbers found ≡ head_within s ref room) where
-    pub reads_head : (start size : ℕ) (h : Head) → found ≡ Values start size h → HeadHeld s (find s head_tag ref) room start size h
-        → ReadsFields s ref room (record { answer = a; start = start; size = size; fields = h.fields })
-    reads_head start size h e held =
-        let count : h.fields ≡ (head_in (part s start size)).fields = ap (λ x. x.fields) held.parsed in
-        record {
-          answers = is ∙ answers;
-          fits = held.fits;
-          lies = λ _. record { short = held.short; inside = held.inside; count = count; few = held.few; last = rw held.parsed at held.last };
-          granted = λ _. (held.starts, held.bytes_are, count);
-          refused = λ z. absurd (z (sym (ap (λ x. x.number) answers) ∙ ap (λ x. (head_numbers x).number) e));
-        }
-
-    pub reads_none : (x : Refusal) → found ≡ Refused x → (x.number ≡ 0 → ⊥) → ReadsFields s ref room (record { answer = a; start = 0; size = 0; fields = 0 })
-    reads_none x e z =
-        record {
-          answers = is ∙ answers;
-          fits = omega arith;
-          lies = λ h. absurd (omega arith);
-          granted = λ q. absurd (z (sym (ap (λ y. (head_numbers y).number) e ∙ refusal_number 12 x) ∙ ap (λ y. y.number) answers ∙ q));
-          refused = λ _. refl;
-        }
+  pub names_fit : (read : Result Found Refusal) → head_numbers read ≡ head_within s ref room → NamesFit read
+  names_fit (Ok x) e = head_names_lem s ref room x.start x.head (sym e)
+  names_fit (Err r) e = tt
 
 -- ---- One field
 
@@ -71,9 +35,6 @@ module _ (s : List ℕ) (r : Reading) (i : ℕ) (e : List ℕ) (is : e ≡ part 
       let k : i < (head_in e).fields = rw is (omega (arith, l.count)) in
       let last : (head_in e).tail.end ≤ r.size = rw is l.last in
       rw read (omega (arith, name_inside e i k, l.inside, l.short))
-
-  pub field_is : field_from r.start f ≡ field_in s r i
-  field_is = ap (field_from r.start) (read ∙ ap (λ b. named_field b i) is)
 
 -- ---- The table
 

@@ -1,12 +1,12 @@
 -- The structs that the C functions of Vgroups and Vdatas return, as answers. Assumes nothing.
-use Rattle.std.specs.Prelude.{ℕ, ◌+◌, ◌≤◌, ◌≡◌, not, [], ◌∷◌, T}
+use Rattle.std.specs.Prelude.{ℕ, ◌+◌, ◌≤◌, not, [], ◌∷◌, T, Result, Ok, Err}
 use Rattle.std.specs.Float.Ieee.{is_nan}
 use Rattle.answer.specs.Answer.{Answer}
 use Rattle.directory.specs.Limits.{most_bytes}
 use Rattle.vset.specs.declared.tail.Ending.{Ending}
 use Rattle.vhead.specs.declared.head.Start.{Start}
-use Rattle.vhead.specs.declared.head.Answered.{Answered}
-use Rattle.vhead.specs.declared.head.Answered.TheVariants.{Values, Refused}
+use Rattle.answer.specs.declared.Refusal.{Refusal}
+use Rattle.vhead.specs.declared.head.Found.{Found}
 use Rattle.vdata.specs.declared.value.Value.{Value}
 use Rattle.vdata.specs.declared.value.Value.TheVariants.{Signed, Unsigned, Float32, Float64, Nan32, Nan64}
 use Rattle.hdf4.specs.declared.vset_calls.GroupAnswer.{GroupAnswer}
@@ -35,10 +35,10 @@ vdata_answer r =
           ∷ r.extension_tag ∷ r.extension_ref ∷ r.version ∷ r.more ∷ [];
     }
 
--- the places of a head's name and class are places of an image; a refusal has a number
-abbrev pub NamesFit : Answered → Type 0
-NamesFit (Values start size h) = (start + h.tail.name ≤ most_bytes) × (start + h.tail.class ≤ most_bytes)
-NamesFit (Refused r) = r.number ≡ 0 → ⊥
+-- the places of a head's name and class are places of an image
+abbrev pub NamesFit : Result Found Refusal → Type 0
+NamesFit (Ok x) = (x.start + x.head.tail.name ≤ most_bytes) × (x.start + x.head.tail.class ≤ most_bytes)
+NamesFit (Err r) = Unit {0}
 
 abbrev pub value_answer : ValueAnswer → Answer
 value_answer r = record { number = r.number; place = r.place; values = r.kind ∷ r.bits ∷ [] }

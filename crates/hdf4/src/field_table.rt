@@ -8,11 +8,10 @@ ghost use Rattle.hdf4.specs.Steps.{Lies, ReadsFields, field_in};
 
 use super::vset_calls::{VdataAnswer, vdata_answer};
 use vhead::head;
-use vhead::head::Answered;
 
 // A field of a Vdata.
 #[repr(C)]
-#[derive(Clone, Copy)]
+#[derive(Clone, Copy, Default)]
 pub struct Field {
     // C: type. The type's code, as it is stored.
     pub code: u16,
@@ -40,34 +39,22 @@ pub struct Reading {
 fn read_head(image: &[u8], reference: u16, room: usize) -> Reading
     ensures { ReadsFields image.now reference room result }
 {
-    let found = head::find(image, reference, room);
-    let answer = vdata_answer(found);
-    match found {
-        Answered::Values { start, size, head } => Reading {
+    let read = head::find(image, reference, room);
+    let answer = vdata_answer(read);
+    match read {
+        Ok(found) => Reading {
             answer,
-            start,
-            size,
-            fields: head.fields,
+            start: found.start,
+            size: found.size,
+            fields: found.head.fields,
         },
-        Answered::Refused(_) => Reading {
+        Err(_) => Reading {
             answer,
             start: 0,
             size: 0,
             fields: 0,
         },
     }
-}
-
-fn count_of(r: Reading) -> usize
-    ensures { result ≡ r.fields }
-{
-    r.fields
-}
-
-fn answer_of(r: Reading) -> VdataAnswer
-    ensures { result ≡ r.answer }
-{
-    r.answer
 }
 
 fn field_at(image: &[u8], r: Reading, i: usize) -> Field
@@ -94,13 +81,8 @@ pub extern "C" fn hdf4_read_fields(image: &[u8], reference: u16, table: &mut [Fi
         table.old table.new (vdata_answer result) }
 {
     let r = read_head(image, reference, table.len());
-    let n = count_of(r);
-    let answer = answer_of(r);
-    let mut i = 0;
-    while i < n {
-        let f = field_at(image, r, i);
-        table[i] = f;
-        i += 1;
+    for i in 0..r.fields {
+        table[i] = field_at(image, r, i);
     }
-    answer
+    r.answer
 }

@@ -17,28 +17,25 @@ mod vset_calls;
 
 ghost use Rattle.std.specs.Prelude.{◌≡◌, length};
 ghost use Rattle.answer.specs.Lent.{Does};
-ghost use Rattle.directory.specs.Opening.{open_of};
-ghost use Rattle.directory.specs.Lookup.{find_of};
-ghost use Rattle.directory.specs.Descriptors.{list_of, elements_of};
-ghost use Rattle.storage.specs.Views.{view_of};
-ghost use Rattle.storage.specs.Sizes.{size_of};
-ghost use Rattle.storage.specs.Copies.{copy_of, element_bytes};
-ghost use Rattle.storage.specs.Choices.{choose_of};
+ghost use Rattle.directory.specs.Opening.{opened_numbers, open_of};
+ghost use Rattle.directory.specs.Lookup.{found_numbers, find_of};
+ghost use Rattle.directory.specs.Descriptors.{listed_numbers, list_of, elements_of};
+ghost use Rattle.storage.specs.Views.{viewed_numbers, view_of};
+ghost use Rattle.storage.specs.Sizes.{sized_numbers, size_of};
+ghost use Rattle.storage.specs.Copies.{copied_numbers, copy_of, element_bytes};
+ghost use Rattle.storage.specs.Choices.{chosen_numbers, choose_of};
 ghost use Rattle.journal.specs.Outcomes.{edited_numbers};
 ghost use Rattle.journal.specs.Buffers.{add_in, replace_in, remove_in, undo_in};
-ghost use Rattle.hdf4.specs.Answers.{open_answer, find_answer, list_answer, view_answer, size_answer, copy_answer, choose_answer, edit_answer, Tells, Edits};
+ghost use Rattle.hdf4.specs.Answers.{open_answer, find_answer, list_answer, view_answer, size_answer, copy_answer, choose_answer, edit_answer, Edits};
 
-use directory::listing::Listed;
-use directory::{Found, Opened};
-use journal::Edited;
+use answer::{Carrying, Refusal};
+use directory::Counts;
 use storage::choose::Chosen;
-use storage::copy::Copied;
-use storage::size::Sized;
-use storage::view::Viewed;
+use storage::element::Part;
 
 // What the directory of an image has.
 #[repr(C)]
-#[derive(Clone, Copy)]
+#[derive(Clone, Copy, Default)]
 pub struct OpenAnswer {
     pub number: u64,
     pub place: u64,
@@ -52,7 +49,7 @@ pub struct OpenAnswer {
 
 // Where an element's descriptor stands.
 #[repr(C)]
-#[derive(Clone, Copy)]
+#[derive(Clone, Copy, Default)]
 pub struct FindAnswer {
     pub number: u64,
     pub place: u64,
@@ -62,7 +59,7 @@ pub struct FindAnswer {
 
 // What was listed.
 #[repr(C)]
-#[derive(Clone, Copy)]
+#[derive(Clone, Copy, Default)]
 pub struct ListAnswer {
     pub number: u64,
     pub place: u64,
@@ -72,7 +69,7 @@ pub struct ListAnswer {
 
 // An element's own part of the image.
 #[repr(C)]
-#[derive(Clone, Copy)]
+#[derive(Clone, Copy, Default)]
 pub struct ViewAnswer {
     pub number: u64,
     pub place: u64,
@@ -84,7 +81,7 @@ pub struct ViewAnswer {
 
 // How many bytes a copy of an element has.
 #[repr(C)]
-#[derive(Clone, Copy)]
+#[derive(Clone, Copy, Default)]
 pub struct SizeAnswer {
     pub number: u64,
     pub place: u64,
@@ -94,7 +91,7 @@ pub struct SizeAnswer {
 
 // What was copied.
 #[repr(C)]
-#[derive(Clone, Copy)]
+#[derive(Clone, Copy, Default)]
 pub struct CopyAnswer {
     pub number: u64,
     pub place: u64,
@@ -106,7 +103,7 @@ pub struct CopyAnswer {
 
 // An element's own part of one of two images.
 #[repr(C)]
-#[derive(Clone, Copy)]
+#[derive(Clone, Copy, Default)]
 pub struct ChooseAnswer {
     pub number: u64,
     pub place: u64,
@@ -120,7 +117,7 @@ pub struct ChooseAnswer {
 
 // What an edit or an undo left.
 #[repr(C)]
-#[derive(Clone, Copy)]
+#[derive(Clone, Copy, Default)]
 pub struct EditAnswer {
     pub number: u64,
     pub place: u64,
@@ -128,28 +125,168 @@ pub struct EditAnswer {
     pub length: u64,
 }
 
+impl From<Result<Counts, Refusal>> for OpenAnswer {
+    ghost from_gives = { λ opened answer. open_answer answer ≡ opened_numbers opened };
+
+    fn from(opened: Result<Counts, Refusal>) -> OpenAnswer {
+        match opened {
+            Ok(counts) => OpenAnswer {
+                blocks: counts.blocks as u64,
+                slots: counts.slots as u64,
+                live: counts.live as u64,
+                ..OpenAnswer::default()
+            },
+            Err(refusal) => OpenAnswer {
+                number: refusal.rule.number() as u64,
+                place: refusal.place as u64,
+                ..OpenAnswer::default()
+            },
+        }
+    }
+}
+
+impl From<Result<usize, Refusal>> for FindAnswer {
+    ghost from_gives = { λ found answer. find_answer answer ≡ found_numbers found };
+
+    fn from(found: Result<usize, Refusal>) -> FindAnswer {
+        match found {
+            Ok(slot) => FindAnswer {
+                slot: slot as u64,
+                ..FindAnswer::default()
+            },
+            Err(refusal) => FindAnswer {
+                number: refusal.rule.number() as u64,
+                place: refusal.place as u64,
+                ..FindAnswer::default()
+            },
+        }
+    }
+}
+
+impl From<Result<usize, Refusal>> for ListAnswer {
+    ghost from_gives = { λ listed answer. list_answer answer ≡ listed_numbers listed };
+
+    fn from(listed: Result<usize, Refusal>) -> ListAnswer {
+        match listed {
+            Ok(elements) => ListAnswer {
+                elements: elements as u64,
+                ..ListAnswer::default()
+            },
+            Err(refusal) => ListAnswer {
+                number: refusal.rule.number() as u64,
+                place: refusal.place as u64,
+                ..ListAnswer::default()
+            },
+        }
+    }
+}
+
+impl From<Result<Part, Refusal>> for ViewAnswer {
+    ghost from_gives = { λ viewed answer. view_answer answer ≡ viewed_numbers viewed };
+
+    fn from(viewed: Result<Part, Refusal>) -> ViewAnswer {
+        match viewed {
+            Ok(part) => ViewAnswer {
+                offset: part.offset as u64,
+                length: part.length as u64,
+                ..ViewAnswer::default()
+            },
+            Err(refusal) => ViewAnswer {
+                number: refusal.rule.number() as u64,
+                place: refusal.place as u64,
+                ..ViewAnswer::default()
+            },
+        }
+    }
+}
+
+impl From<Result<usize, Refusal>> for SizeAnswer {
+    ghost from_gives = { λ sized answer. size_answer answer ≡ sized_numbers sized };
+
+    fn from(sized: Result<usize, Refusal>) -> SizeAnswer {
+        match sized {
+            Ok(length) => SizeAnswer {
+                length: length as u64,
+                ..SizeAnswer::default()
+            },
+            Err(refusal) => SizeAnswer {
+                number: refusal.rule.number() as u64,
+                place: refusal.place as u64,
+                ..SizeAnswer::default()
+            },
+        }
+    }
+}
+
+impl From<Result<usize, Carrying>> for CopyAnswer {
+    ghost from_gives = { λ copied answer. copy_answer answer ≡ copied_numbers copied };
+
+    fn from(copied: Result<usize, Carrying>) -> CopyAnswer {
+        match copied {
+            Ok(length) => CopyAnswer {
+                length: length as u64,
+                ..CopyAnswer::default()
+            },
+            Err(refusal) => CopyAnswer {
+                number: refusal.rule.number() as u64,
+                place: refusal.place as u64,
+                index: refusal.value as u64,
+                ..CopyAnswer::default()
+            },
+        }
+    }
+}
+
+impl From<Result<Chosen, Refusal>> for ChooseAnswer {
+    ghost from_gives = { λ chosen answer. choose_answer answer ≡ chosen_numbers chosen };
+
+    fn from(chosen: Result<Chosen, Refusal>) -> ChooseAnswer {
+        match chosen {
+            Ok(Chosen::Current(part)) => ChooseAnswer {
+                which: 1,
+                offset: part.offset as u64,
+                length: part.length as u64,
+                ..ChooseAnswer::default()
+            },
+            Ok(Chosen::Fallback(part)) => ChooseAnswer {
+                which: 2,
+                offset: part.offset as u64,
+                length: part.length as u64,
+                ..ChooseAnswer::default()
+            },
+            Err(refusal) => ChooseAnswer {
+                number: refusal.rule.number() as u64,
+                place: refusal.place as u64,
+                ..ChooseAnswer::default()
+            },
+        }
+    }
+}
+
+impl From<Result<usize, Refusal>> for EditAnswer {
+    ghost from_gives = { λ edited answer. edit_answer answer ≡ edited_numbers edited };
+
+    fn from(edited: Result<usize, Refusal>) -> EditAnswer {
+        match edited {
+            Ok(length) => EditAnswer {
+                length: length as u64,
+                ..EditAnswer::default()
+            },
+            Err(refusal) => EditAnswer {
+                number: refusal.rule.number() as u64,
+                place: refusal.place as u64,
+                ..EditAnswer::default()
+            },
+        }
+    }
+}
+
 // Opens an image: counts its directory, or finds the first rule that it breaks.
 #[unsafe(no_mangle)]
 pub extern "C" fn hdf4_open(image: &[u8]) -> OpenAnswer
     ensures { open_answer result ≡ open_of image.now }
 {
-    let opened = directory::open(image);
-    match opened {
-        Opened::Accepted(c) => OpenAnswer {
-            number: 0,
-            place: 0,
-            blocks: c.blocks as u64,
-            slots: c.slots as u64,
-            live: c.live as u64,
-        },
-        Opened::Refused(r) => OpenAnswer {
-            number: r.number as u64,
-            place: r.place as u64,
-            blocks: 0,
-            slots: 0,
-            live: 0,
-        },
-    }
+    directory::open(image).into()
 }
 
 // Finds the live slot that has the base tag of a tag and a reference.
@@ -157,19 +294,7 @@ pub extern "C" fn hdf4_open(image: &[u8]) -> OpenAnswer
 pub extern "C" fn hdf4_find(image: &[u8], tag: u16, reference: u16) -> FindAnswer
     ensures { find_answer result ≡ find_of image.now tag reference }
 {
-    let found = directory::find(image, tag, reference);
-    match found {
-        Found::At(slot) => FindAnswer {
-            number: 0,
-            place: 0,
-            slot: slot as u64,
-        },
-        Found::Missing(r) => FindAnswer {
-            number: r.number as u64,
-            place: r.place as u64,
-            slot: 0,
-        },
-    }
+    directory::find(image, tag, reference).into()
 }
 
 // Lists the live slots in chain order to the front of a lent table: tag, reference, offset and length of each, as they stand in its slot. Offset and
@@ -180,19 +305,7 @@ pub extern "C" fn hdf4_list(image: &[u8], table: &mut [u32]) -> ListAnswer
     ensures { Does (list_of image.now (length table.old)) (elements_of image.now)
         table.old table.new (list_answer result) }
 {
-    let listed = directory::listing::list(image, table);
-    match listed {
-        Listed::Elements(n) => ListAnswer {
-            number: 0,
-            place: 0,
-            elements: n as u64,
-        },
-        Listed::Refused(r) => ListAnswer {
-            number: r.number as u64,
-            place: r.place as u64,
-            elements: 0,
-        },
-    }
+    directory::listing::list(image, table).into()
 }
 
 // Finds an element's own part of the image. The element is plain: an extended one is refused at its slot.
@@ -200,21 +313,7 @@ pub extern "C" fn hdf4_list(image: &[u8], table: &mut [u32]) -> ListAnswer
 pub extern "C" fn hdf4_view(image: &[u8], tag: u16, reference: u16) -> ViewAnswer
     ensures { view_answer result ≡ view_of image.now tag reference }
 {
-    let viewed = storage::view::numbers(image, tag, reference);
-    match viewed {
-        Viewed::Part { offset, length } => ViewAnswer {
-            number: 0,
-            place: 0,
-            offset: offset as u64,
-            length: length as u64,
-        },
-        Viewed::Refused(r) => ViewAnswer {
-            number: r.number as u64,
-            place: r.place as u64,
-            offset: 0,
-            length: 0,
-        },
-    }
+    storage::view::numbers(image, tag, reference).into()
 }
 
 // Tells how many bytes hdf4_copy would write, and so how long its output must be. The element is plain or of linked blocks; their record is
@@ -223,19 +322,7 @@ pub extern "C" fn hdf4_view(image: &[u8], tag: u16, reference: u16) -> ViewAnswe
 pub extern "C" fn hdf4_size(image: &[u8], tag: u16, reference: u16) -> SizeAnswer
     ensures { size_answer result ≡ size_of image.now tag reference }
 {
-    let sized = storage::size::size(image, tag, reference);
-    match sized {
-        Sized::Bytes(bytes) => SizeAnswer {
-            number: 0,
-            place: 0,
-            length: bytes as u64,
-        },
-        Sized::Refused(r) => SizeAnswer {
-            number: r.number as u64,
-            place: r.place as u64,
-            length: 0,
-        },
-    }
+    storage::size::size(image, tag, reference).into()
 }
 
 // Copies an element's bytes to the front of a lent output; the rest of it stays as it was. The element is plain or of linked blocks, of which one
@@ -246,21 +333,7 @@ pub extern "C" fn hdf4_copy(image: &[u8], tag: u16, reference: u16, out: &mut [u
     ensures { Does (copy_of image.now tag reference (length out.old)) (element_bytes image.now tag reference)
         out.old out.new (copy_answer result) }
 {
-    let copied = storage::copy::copy(image, tag, reference, out);
-    match copied {
-        Copied::Bytes(n) => CopyAnswer {
-            number: 0,
-            place: 0,
-            length: n as u64,
-            index: 0,
-        },
-        Copied::Refused(r) => CopyAnswer {
-            number: r.number as u64,
-            place: r.place as u64,
-            length: 0,
-            index: r.value as u64,
-        },
-    }
+    storage::copy::copy(image, tag, reference, out).into()
 }
 
 // Finds an element's own part of the current image or, where that has no such element, of the fallback. Both must open, and the element is
@@ -275,47 +348,7 @@ pub extern "C" fn hdf4_choose(
 ) -> ChooseAnswer
     ensures { choose_answer result ≡ choose_of current.now fallback.now tag reference }
 {
-    let chosen = storage::choose::numbers(current, fallback, tag, reference);
-    match chosen {
-        Chosen::Current { offset, length } => ChooseAnswer {
-            number: 0,
-            place: 0,
-            which: 1,
-            offset: offset as u64,
-            length: length as u64,
-        },
-        Chosen::Fallback { offset, length } => ChooseAnswer {
-            number: 0,
-            place: 0,
-            which: 2,
-            offset: offset as u64,
-            length: length as u64,
-        },
-        Chosen::Refused(r) => ChooseAnswer {
-            number: r.number as u64,
-            place: r.place as u64,
-            which: 0,
-            offset: 0,
-            length: 0,
-        },
-    }
-}
-
-fn edit_answer(edited: Edited) -> EditAnswer
-    ensures { Tells edited_numbers edited (edit_answer result) }
-{
-    match edited {
-        Edited::Granted(length) => EditAnswer {
-            number: 0,
-            place: 0,
-            length: length as u64,
-        },
-        Edited::Refused(refusal) => EditAnswer {
-            number: refusal.number as u64,
-            place: refusal.place as u64,
-            length: 0,
-        },
-    }
+    storage::choose::numbers(current, fallback, tag, reference).into()
 }
 
 // Edits and undo.
@@ -338,7 +371,7 @@ pub extern "C" fn hdf4_add(
 ) -> EditAnswer
     ensures { Edits (add_in buffer.old n desk tag reference content.now) buffer.old buffer.new result }
 {
-    edit_answer(journal::add(buffer, n as usize, desk, tag, reference, content))
+    journal::add(buffer, n as usize, desk, tag, reference, content).into()
 }
 
 // Gives an element other data.
@@ -354,7 +387,7 @@ pub extern "C" fn hdf4_replace(
     ensures { Edits (replace_in buffer.old n desk tag reference content.now)
         buffer.old buffer.new result }
 {
-    edit_answer(journal::replace(buffer, n as usize, desk, tag, reference, content))
+    journal::replace(buffer, n as usize, desk, tag, reference, content).into()
 }
 
 // Removes an element.
@@ -368,7 +401,7 @@ pub extern "C" fn hdf4_remove(
 ) -> EditAnswer
     ensures { Edits (remove_in buffer.old n desk tag reference) buffer.old buffer.new result }
 {
-    edit_answer(journal::remove(buffer, n as usize, desk, tag, reference))
+    journal::remove(buffer, n as usize, desk, tag, reference).into()
 }
 
 // Undoes the newest edit that the image carries, for the desk that made it: the image is as before the edit, byte for byte. Another desk is
@@ -378,5 +411,5 @@ pub extern "C" fn hdf4_remove(
 pub extern "C" fn hdf4_undo(buffer: &mut [u8], n: u64, desk: u32) -> EditAnswer
     ensures { Edits (undo_in buffer.old n desk) buffer.old buffer.new result }
 {
-    edit_answer(journal::undo(buffer, n as usize, desk))
+    journal::undo(buffer, n as usize, desk).into()
 }

@@ -4,19 +4,19 @@ ghost use Rattle.directory.specs.Lookup.{find};
 ghost use Rattle.records.specs.Limits.{array_tag};
 ghost use Rattle.records.specs.Readings.{record_bytes};
 ghost use Rattle.records.specs.Packings.{packed_numbers, Packs};
-ghost use Rattle.records.specs.NumberTypes.{number_type_of, number_type_bytes};
-ghost use Rattle.records.specs.Dimensions.{dimension_of, dimension_bytes, dimension_pack_fault};
-ghost use Rattle.records.specs.Arrays.{array_of, ReadsArray, array_bytes, array_pack_fault};
-ghost use Rattle.hdf4.specs.Answers.{Tells};
+ghost use Rattle.records.specs.NumberTypes.{number_type_numbers, number_type_of, number_type_bytes};
+ghost use Rattle.records.specs.Dimensions.{dimension_numbers, dimension_of, dimension_bytes, dimension_pack_fault};
+ghost use Rattle.records.specs.Arrays.{array_numbers, array_of, ReadsArray, array_bytes, array_pack_fault};
 ghost use Rattle.hdf4.specs.RecordAnswers.{number_type_answer, dimension_answer, dimension_from, array_answer, pack_answer};
 
+use answer::Refusal;
 use records::dimension::Dimension;
 use records::number_type::NumberType;
-use records::{Packed, array, dimension, number_type};
+use records::{array, dimension, number_type};
 
 // A number type.
 #[repr(C)]
-#[derive(Clone, Copy)]
+#[derive(Clone, Copy, Default)]
 pub struct NumberTypeAnswer {
     pub number: u64,
     pub place: u64,
@@ -32,7 +32,7 @@ pub struct NumberTypeAnswer {
 
 // A dimension.
 #[repr(C)]
-#[derive(Clone, Copy)]
+#[derive(Clone, Copy, Default)]
 pub struct DimensionAnswer {
     pub number: u64,
     pub place: u64,
@@ -56,7 +56,7 @@ pub struct DimensionAnswer {
 
 // An array; its lists are in the tables.
 #[repr(C)]
-#[derive(Clone, Copy)]
+#[derive(Clone, Copy, Default)]
 pub struct ArrayAnswer {
     pub number: u64,
     pub place: u64,
@@ -66,7 +66,7 @@ pub struct ArrayAnswer {
 
 // What was packed.
 #[repr(C)]
-#[derive(Clone, Copy)]
+#[derive(Clone, Copy, Default)]
 pub struct PackAnswer {
     pub number: u64,
     pub place: u64,
@@ -74,20 +74,85 @@ pub struct PackAnswer {
     pub length: u64,
 }
 
-pub(crate) fn pack_answer(packed: Packed) -> PackAnswer
-    ensures { Tells packed_numbers packed (pack_answer result) }
-{
-    match packed {
-        Packed::Bytes(n) => PackAnswer {
-            number: 0,
-            place: 0,
-            length: n as u64,
-        },
-        Packed::Refused(refusal) => PackAnswer {
-            number: refusal.number as u64,
-            place: refusal.place as u64,
-            length: 0,
-        },
+impl From<Result<NumberType, Refusal>> for NumberTypeAnswer {
+    ghost from_gives = { λ read answer. number_type_answer answer ≡ number_type_numbers read };
+
+    fn from(read: Result<NumberType, Refusal>) -> NumberTypeAnswer {
+        match read {
+            Ok(x) => NumberTypeAnswer {
+                version: x.version as u64,
+                code: x.code as u64,
+                width: x.width as u64,
+                class: x.class as u64,
+                ..NumberTypeAnswer::default()
+            },
+            Err(refusal) => NumberTypeAnswer {
+                number: refusal.rule.number() as u64,
+                place: refusal.place as u64,
+                ..NumberTypeAnswer::default()
+            },
+        }
+    }
+}
+
+impl From<Result<Dimension, Refusal>> for DimensionAnswer {
+    ghost from_gives = { λ read answer. dimension_answer answer ≡ dimension_numbers read };
+
+    fn from(read: Result<Dimension, Refusal>) -> DimensionAnswer {
+        match read {
+            Ok(d) => DimensionAnswer {
+                x: d.x as u64,
+                y: d.y as u64,
+                type_tag: d.type_tag as u64,
+                type_ref: d.type_ref as u64,
+                elements: d.elements as u64,
+                interlace: d.interlace as u64,
+                compression_tag: d.compression_tag as u64,
+                compression_ref: d.compression_ref as u64,
+                ..DimensionAnswer::default()
+            },
+            Err(refusal) => DimensionAnswer {
+                number: refusal.rule.number() as u64,
+                place: refusal.place as u64,
+                ..DimensionAnswer::default()
+            },
+        }
+    }
+}
+
+impl From<Result<usize, Refusal>> for ArrayAnswer {
+    ghost from_gives = { λ read answer. array_answer answer ≡ array_numbers read };
+
+    fn from(read: Result<usize, Refusal>) -> ArrayAnswer {
+        match read {
+            Ok(rank) => ArrayAnswer {
+                rank: rank as u64,
+                ..ArrayAnswer::default()
+            },
+            Err(refusal) => ArrayAnswer {
+                number: refusal.rule.number() as u64,
+                place: refusal.place as u64,
+                ..ArrayAnswer::default()
+            },
+        }
+    }
+}
+
+impl From<Result<usize, Refusal>> for PackAnswer {
+    ghost from_gives = { λ packed answer. pack_answer answer ≡ packed_numbers packed };
+
+    fn from(packed: Result<usize, Refusal>) -> PackAnswer {
+        match packed {
+            Ok(length) => PackAnswer {
+                length: length as u64,
+                ..PackAnswer::default()
+            },
+            Err(refusal) => PackAnswer {
+                number: refusal.rule.number() as u64,
+                place: refusal.place as u64,
+                ..PackAnswer::default()
+            },
+        }
     }
 }
 
@@ -104,25 +169,7 @@ pub(crate) fn pack_answer(packed: Packed) -> PackAnswer
 pub extern "C" fn hdf4_read_number_type(image: &[u8], reference: u16) -> NumberTypeAnswer
     ensures { number_type_answer result ≡ number_type_of image.now reference }
 {
-    let answered = number_type::read(image, reference);
-    match answered {
-        number_type::Answered::Values(x) => NumberTypeAnswer {
-            number: 0,
-            place: 0,
-            version: x.version as u64,
-            code: x.code as u64,
-            width: x.width as u64,
-            class: x.class as u64,
-        },
-        number_type::Answered::Refused(r) => NumberTypeAnswer {
-            number: r.number as u64,
-            place: r.place as u64,
-            version: 0,
-            code: 0,
-            width: 0,
-            class: 0,
-        },
-    }
+    number_type::read(image, reference).into()
 }
 
 // Packs a number type: 4 bytes.
@@ -143,7 +190,7 @@ pub extern "C" fn hdf4_pack_number_type(
         width,
         class,
     };
-    pack_answer(number_type::pack(x, out))
+    number_type::pack(x, out).into()
 }
 
 // Reads a dimension, of tag 300, 307 or 308. The tag may be any, and is looked up by its base tag.
@@ -151,33 +198,7 @@ pub extern "C" fn hdf4_pack_number_type(
 pub extern "C" fn hdf4_read_dimension(image: &[u8], tag: u16, reference: u16) -> DimensionAnswer
     ensures { dimension_answer result ≡ dimension_of image.now tag reference }
 {
-    let answered = dimension::read(image, tag, reference);
-    match answered {
-        dimension::Answered::Values(d) => DimensionAnswer {
-            number: 0,
-            place: 0,
-            x: d.x as u64,
-            y: d.y as u64,
-            type_tag: d.type_tag as u64,
-            type_ref: d.type_ref as u64,
-            elements: d.elements as u64,
-            interlace: d.interlace as u64,
-            compression_tag: d.compression_tag as u64,
-            compression_ref: d.compression_ref as u64,
-        },
-        dimension::Answered::Refused(r) => DimensionAnswer {
-            number: r.number as u64,
-            place: r.place as u64,
-            x: 0,
-            y: 0,
-            type_tag: 0,
-            type_ref: 0,
-            elements: 0,
-            interlace: 0,
-            compression_tag: 0,
-            compression_ref: 0,
-        },
-    }
+    dimension::read(image, tag, reference).into()
 }
 
 // Packs a dimension: 20 bytes.
@@ -206,7 +227,7 @@ pub extern "C" fn hdf4_pack_dimension(
         compression_tag,
         compression_ref,
     };
-    pack_answer(dimension::pack(d, out))
+    dimension::pack(d, out).into()
 }
 
 // Reads an array, tag 701: its sizes, and one pair more, the data's type first.
@@ -221,19 +242,7 @@ pub extern "C" fn hdf4_read_array(
         ReadsArray (array_of s reference (length sizes.old) (length pairs.old)) (record_bytes s (find s array_tag reference))
         sizes.old sizes.new pairs.old pairs.new (array_answer result) }
 {
-    let answered = array::read(image, reference, sizes, pairs);
-    match answered {
-        array::Answered::Rank(n) => ArrayAnswer {
-            number: 0,
-            place: 0,
-            rank: n as u64,
-        },
-        array::Answered::Refused(r) => ArrayAnswer {
-            number: r.number as u64,
-            place: r.place as u64,
-            rank: 0,
-        },
-    }
+    array::read(image, reference, sizes, pairs).into()
 }
 
 // Packs an array: 6 bytes, and 8 for each size.
@@ -242,5 +251,5 @@ pub extern "C" fn hdf4_pack_array(sizes: &[u32], pairs: &[u16], out: &mut [u8]) 
     ensures { Packs (array_pack_fault (length sizes.now) (length pairs.now))
         (array_bytes sizes.now pairs.now) out.old out.new (pack_answer result) }
 {
-    pack_answer(array::pack(sizes, pairs, out))
+    array::pack(sizes, pairs, out).into()
 }

@@ -7,27 +7,29 @@ ghost use Rattle.records.specs.Readings.{record_bytes};
 ghost use Rattle.records.specs.Packings.{Packs};
 ghost use Rattle.vgroup.specs.Limits.{group_tag};
 ghost use Rattle.vgroup.specs.Groups.{group_of, group_members, group_bytes, group_pack_fault};
-ghost use Rattle.vgroup.specs.Listings.{listing_of, pairs_of};
+ghost use Rattle.vgroup.specs.Listings.{pairs_numbers, listing_of, pairs_of};
 ghost use Rattle.vhead.specs.Limits.{head_tag};
 ghost use Rattle.vhead.specs.Heads.{head_of, ReadsHead, head_numbers, head_bytes, head_pack_fault};
-ghost use Rattle.vdata.specs.Patterns.{complement, value_kind, value_bits};
+ghost use Rattle.vdata.specs.Patterns.{value_kind, value_bits};
 ghost use Rattle.vdata.specs.Values.{value_of};
-ghost use Rattle.vdata.specs.Columns.{column_of, column_bits};
+ghost use Rattle.vdata.specs.Columns.{column_numbers, column_of, column_bits};
 ghost use Rattle.hdf4.specs.RecordAnswers.{pack_answer};
 ghost use Rattle.hdf4.specs.VsetAnswers.{group_answer, vdata_answer, value_answer, column_answer, HasBits, pairs_answer, NamesFit, ending_from, start_from};
 
-use super::record_calls::{PackAnswer, pack_answer};
+use super::limits::{FLOAT32, FLOAT64, SIGNED, UNSIGNED};
+use super::record_calls::PackAnswer;
+use answer::Refusal;
+use vdata::column::Column;
 use vdata::value::Value;
 use vdata::{column, value};
-use vgroup::listing::Listed;
 use vgroup::{group, listing};
 use vhead::head;
-use vhead::head::Start;
+use vhead::head::{Found, Start};
 use vset::tail::Ending;
 
 // A Vgroup; its members are in the table.
 #[repr(C)]
-#[derive(Clone, Copy)]
+#[derive(Clone, Copy, Default)]
 pub struct GroupAnswer {
     pub number: u64,
     pub place: u64,
@@ -53,7 +55,7 @@ pub struct GroupAnswer {
 
 // The head of a Vdata; its fields are in the tables.
 #[repr(C)]
-#[derive(Clone, Copy)]
+#[derive(Clone, Copy, Default)]
 pub struct VdataAnswer {
     pub number: u64,
     pub place: u64,
@@ -85,7 +87,7 @@ pub struct VdataAnswer {
 
 // A value of a Vdata.
 #[repr(C)]
-#[derive(Clone, Copy)]
+#[derive(Clone, Copy, Default)]
 pub struct ValueAnswer {
     pub number: u64,
     pub place: u64,
@@ -97,7 +99,7 @@ pub struct ValueAnswer {
 
 // What was read of a column of a Vdata.
 #[repr(C)]
-#[derive(Clone, Copy)]
+#[derive(Clone, Copy, Default)]
 pub struct ColumnAnswer {
     pub number: u64,
     pub place: u64,
@@ -109,12 +111,49 @@ pub struct ColumnAnswer {
 
 // C: hdf4_group_list_answer. What was listed of a Vgroup.
 #[repr(C)]
-#[derive(Clone, Copy)]
+#[derive(Clone, Copy, Default)]
 pub struct PairsAnswer {
     pub number: u64,
     pub place: u64,
     // Pairs that were written to the table.
     pub pairs: u64,
+}
+
+impl From<Result<Column, Refusal>> for ColumnAnswer {
+    ghost from_gives = { λ read answer. column_answer answer ≡ column_numbers read };
+
+    fn from(read: Result<Column, Refusal>) -> ColumnAnswer {
+        match read {
+            Ok(column) => ColumnAnswer {
+                kind: column.kind.number(),
+                records: column.records as u64,
+                ..ColumnAnswer::default()
+            },
+            Err(refusal) => ColumnAnswer {
+                number: refusal.rule.number() as u64,
+                place: refusal.place as u64,
+                ..ColumnAnswer::default()
+            },
+        }
+    }
+}
+
+impl From<Result<usize, Refusal>> for PairsAnswer {
+    ghost from_gives = { λ listed answer. pairs_answer answer ≡ pairs_numbers listed };
+
+    fn from(listed: Result<usize, Refusal>) -> PairsAnswer {
+        match listed {
+            Ok(pairs) => PairsAnswer {
+                pairs: pairs as u64,
+                ..PairsAnswer::default()
+            },
+            Err(refusal) => PairsAnswer {
+                number: refusal.rule.number() as u64,
+                place: refusal.place as u64,
+                ..PairsAnswer::default()
+            },
+        }
+    }
 }
 
 // Reads a Vgroup, tag 1965: tag and reference of each member.
@@ -124,33 +163,26 @@ pub extern "C" fn hdf4_read_group(image: &[u8], reference: u16, members: &mut [u
         Does (group_of s reference (length members.old)) (group_members (record_bytes s (find s group_tag reference)))
         members.old members.new (group_answer result) }
 {
-    let answered = group::read(image, reference, members);
-    match answered {
-        group::Answered::Values { start, group } => GroupAnswer {
-            number: 0,
-            place: 0,
-            members: group.members as u64,
-            name: (start + group.tail.name) as u64,
-            name_length: group.tail.name_length as u64,
-            class: (start + group.tail.class) as u64,
-            class_length: group.tail.class_length as u64,
-            extension_tag: group.tail.extension_tag as u64,
-            extension_ref: group.tail.extension_ref as u64,
-            version: group.tail.version as u64,
-            more: group.tail.more as u64,
-        },
-        group::Answered::Refused(r) => GroupAnswer {
-            number: r.number as u64,
-            place: r.place as u64,
-            members: 0,
-            name: 0,
-            name_length: 0,
-            class: 0,
-            class_length: 0,
-            extension_tag: 0,
-            extension_ref: 0,
-            version: 0,
-            more: 0,
+    match group::read(image, reference, members) {
+        Ok(found) => {
+            let tail = found.group.tail;
+            GroupAnswer {
+                members: found.group.members as u64,
+                name: (found.start + tail.name) as u64,
+                name_length: tail.name_length as u64,
+                class: (found.start + tail.class) as u64,
+                class_length: tail.class_length as u64,
+                extension_tag: tail.extension_tag as u64,
+                extension_ref: tail.extension_ref as u64,
+                version: tail.version as u64,
+                more: tail.more as u64,
+                ..GroupAnswer::default()
+            }
+        }
+        Err(refusal) => GroupAnswer {
+            number: refusal.rule.number() as u64,
+            place: refusal.place as u64,
+            ..GroupAnswer::default()
         },
     }
 }
@@ -178,7 +210,7 @@ pub extern "C" fn hdf4_pack_group(
         version,
         more,
     };
-    pack_answer(group::pack(members, name, class, x, out))
+    group::pack(members, name, class, x, out).into()
 }
 
 // Reads the head of a Vdata, tag 1962: type, size, offset and order of each field, and place in the image and length of each field's
@@ -199,46 +231,34 @@ pub extern "C" fn hdf4_read_vdata(
 }
 
 // The numbers of a head that was found, or its refusal.
-pub(crate) fn vdata_answer(found: head::Answered) -> VdataAnswer
-    requires { NamesFit found }
-    ensures { vdata_answer result ≡ head_numbers found }
+pub(crate) fn vdata_answer(read: Result<Found, Refusal>) -> VdataAnswer
+    requires { NamesFit read }
+    ensures { vdata_answer result ≡ head_numbers read }
 {
-    match found {
-        head::Answered::Values {
-            start,
-            size: _,
-            head,
-        } => VdataAnswer {
-            number: 0,
-            place: 0,
-            interlace: head.interlace as u64,
-            records: head.records as u64,
-            record_size: head.record_size as u64,
-            fields: head.fields as u64,
-            name: (start + head.tail.name) as u64,
-            name_length: head.tail.name_length as u64,
-            class: (start + head.tail.class) as u64,
-            class_length: head.tail.class_length as u64,
-            extension_tag: head.tail.extension_tag as u64,
-            extension_ref: head.tail.extension_ref as u64,
-            version: head.tail.version as u64,
-            more: head.tail.more as u64,
-        },
-        head::Answered::Refused(r) => VdataAnswer {
-            number: r.number as u64,
-            place: r.place as u64,
-            interlace: 0,
-            records: 0,
-            record_size: 0,
-            fields: 0,
-            name: 0,
-            name_length: 0,
-            class: 0,
-            class_length: 0,
-            extension_tag: 0,
-            extension_ref: 0,
-            version: 0,
-            more: 0,
+    match read {
+        Ok(found) => {
+            let head = found.head;
+            let tail = head.tail;
+            VdataAnswer {
+                interlace: head.interlace as u64,
+                records: head.records as u64,
+                record_size: head.record_size as u64,
+                fields: head.fields as u64,
+                name: (found.start + tail.name) as u64,
+                name_length: tail.name_length as u64,
+                class: (found.start + tail.class) as u64,
+                class_length: tail.class_length as u64,
+                extension_tag: tail.extension_tag as u64,
+                extension_ref: tail.extension_ref as u64,
+                version: tail.version as u64,
+                more: tail.more as u64,
+                ..VdataAnswer::default()
+            }
+        }
+        Err(refusal) => VdataAnswer {
+            number: refusal.rule.number() as u64,
+            place: refusal.place as u64,
+            ..VdataAnswer::default()
         },
     }
 }
@@ -279,48 +299,26 @@ pub extern "C" fn hdf4_pack_vdata(
         version,
         more,
     };
-    pack_answer(head::pack(b, fields, name_lengths, names, name, class, x, out))
+    head::pack(b, fields, name_lengths, names, name, class, x, out).into()
 }
 
-// A number in 64 bits of two's complement.
-fn in_bits(z: i64) -> u64
-    ensures { result ≡ complement z }
-{
-    if z < 0 {
-        let below = (-1 - z) as u64;
-        return 18446744073709551615 - below;
-    }
-    z as u64
-}
-
-fn wide(n: u32) -> u64
-    ensures { result ≡ n }
-{
-    n as u64
-}
-
-fn granted(kind: u64, bits: u64) -> ValueAnswer
-    ensures { value_answer result ≡ grant (kind ∷ bits ∷ []) }
-{
-    ValueAnswer {
-        number: 0,
-        place: 0,
-        kind,
-        bits,
-    }
-}
-
+// The kind of a value, and its bits: of a signed number in 64 bits of two's complement.
 fn value_answer(v: Value) -> ValueAnswer
     requires { HasBits v }
     ensures { value_answer result ≡ grant (value_kind v ∷ value_bits v ∷ []) }
 {
-    match v {
-        Value::Signed(z) => granted(1, in_bits(z)),
-        Value::Unsigned(n) => granted(2, n),
-        Value::Float32(x) => granted(3, wide(f32::to_bits(x))),
-        Value::Float64(x) => granted(4, f64::to_bits(x)),
-        Value::Nan32(n) => granted(3, wide(n)),
-        Value::Nan64(n) => granted(4, n),
+    let (kind, bits) = match v {
+        Value::Signed(z) => (SIGNED, z.cast_unsigned()),
+        Value::Unsigned(n) => (UNSIGNED, n),
+        Value::Float32(x) => (FLOAT32, u64::from(x.to_bits())),
+        Value::Float64(x) => (FLOAT64, x.to_bits()),
+        Value::Nan32(n) => (FLOAT32, u64::from(n)),
+        Value::Nan64(n) => (FLOAT64, n),
+    };
+    ValueAnswer {
+        kind,
+        bits,
+        ..ValueAnswer::default()
     }
 }
 
@@ -336,14 +334,12 @@ pub extern "C" fn hdf4_read_value(
 ) -> ValueAnswer
     ensures { value_answer result ≡ value_of image.now reference «record» field component }
 {
-    let answered = value::read(image, reference, record, field, component);
-    match answered {
-        value::Answered::Value(v) => value_answer(v),
-        value::Answered::Refused(r) => ValueAnswer {
-            number: r.number as u64,
-            place: r.place as u64,
-            kind: 0,
-            bits: 0,
+    match value::read(image, reference, record, field, component) {
+        Ok(v) => value_answer(v),
+        Err(refusal) => ValueAnswer {
+            number: refusal.rule.number() as u64,
+            place: refusal.place as u64,
+            ..ValueAnswer::default()
         },
     }
 }
@@ -362,21 +358,7 @@ pub extern "C" fn hdf4_read_column(
         Does (column_of s reference field component (length out.old)) (column_bits s reference field component)
         out.old out.new (column_answer result) }
 {
-    let answered = column::read(image, reference, field, component, out);
-    match answered {
-        column::Answered::Column { kind, records } => ColumnAnswer {
-            number: 0,
-            place: 0,
-            kind,
-            records: records as u64,
-        },
-        column::Answered::Refused(r) => ColumnAnswer {
-            number: r.number as u64,
-            place: r.place as u64,
-            kind: 0,
-            records: 0,
-        },
-    }
+    column::read(image, reference, field, component, out).into()
 }
 
 // Lists the members of a Vgroup in order, each member of tag 1965 followed by its own members: tag and reference of each. There are at most
@@ -387,17 +369,5 @@ pub extern "C" fn hdf4_list_group(image: &[u8], reference: u16, list: &mut [u16]
     ensures { let s = image.now in let room = length list.old in
         Does (listing_of s reference room) (pairs_of s reference room) list.old list.new (pairs_answer result) }
 {
-    let listed = listing::list(image, reference, list);
-    match listed {
-        Listed::Pairs(n) => PairsAnswer {
-            number: 0,
-            place: 0,
-            pairs: n as u64,
-        },
-        Listed::Refused(r) => PairsAnswer {
-            number: r.number as u64,
-            place: r.place as u64,
-            pairs: 0,
-        },
-    }
+    listing::list(image, reference, list).into()
 }

@@ -1,6 +1,5 @@
 -- Where an absent element goes, and what adding it there comes to, from the answers of the code. Assumes nothing.
 use Prim.Native.Nat.{ℕ, ◌+◌, ◌<◌, ◌≤◌}
-use native.Mathlib.Nat.{suc-ne-zero}
 use native.Mathlib.Omega.{arith}
 use mathlib.Core.Path.{◌≡◌, refl, sym, ap, ◌∙◌}
 use mathlib.Core.Logic.{inl, inr}
@@ -10,8 +9,10 @@ use lib.ListN.{length, get_or, take}
 use lib.Seq.{length-take-le}
 use lib.Dec.{leb, ltb}
 use borrow.Author.Tests.{le-leb, lt-leb, lt-ltb, le-ltb}
+use Rattle.std.specs.Prelude.{Result, Err}
 use Rattle.directory.specs.Limits.{most_bytes, most_blocks, most_slots}
-use Rattle.answer.specs.Refusals.{DIR_BIG}
+use Rattle.answer.specs.declared.Refusal.{Refusal}
+use Rattle.answer.specs.declared.refusals.Rule.TheVariants.{DirBig}
 use Rattle.answer.specs.Answer.{grant}
 use Rattle.answer.specs.Search.{Hit, hit, miss, first, In}
 use Rattle.directory.specs.Blocks.{blocks_of}
@@ -32,8 +33,6 @@ use Rattle.journal.specs.Trailers.{slot_size, named}
 use Rattle.journal.specs.Edits.{block_slots, block_size, data_slot, new_block, slot_edit, block_edit, fitted, first_free, add_at}
 use Rattle.journal.specs.Buffers.{Leaves}
 use Rattle.journal.specs.Steps.Changes.{Editable, slot_in, block_in, new_in}
-use Rattle.journal.specs.declared.Edited.{Edited}
-use Rattle.journal.specs.declared.Edited.TheVariants.{Refused}
 use Rattle.journal.proofs.Buffers.{refuses, leaves_same, image_short}
 use Rattle.journal.proofs.Spacing.{slot_inside}
 
@@ -93,7 +92,7 @@ module _ (l : List ℕ) (n blocks slots live : ℕ) (fits : n ≤ length l) (o :
     pub slot_room : (n ≤ most_bytes) × (n ≤ length l) × (p + slot_size ≤ n)
     slot_room = (image_short l n fits opened, fits, place_inside p (first_hit (λ q. not (live_at (take n l) q)) (slots_of (take n l)) p slot_free).0)
 
-    pub add_slot : (desk tag ref : ℕ) (content after : List ℕ) (r : Edited) → Leaves (slot_in l n p desk tag ref content) l after r
+    pub add_slot : (desk tag ref : ℕ) (content after : List ℕ) (r : Result ℕ Refusal) → Leaves (slot_in l n p desk tag ref content) l after r
         → Leaves (new_in l n desk tag ref content) l after r
     unfolding add_at
     add_slot desk tag ref content after r =
@@ -123,17 +122,17 @@ module _ (l : List ℕ) (n blocks slots live : ℕ) (fits : n ≤ length l) (o :
       abbrev full : Bool
       full = ltb most_slots (length (slots_of (take n l)) + block_slots)
 
-      add_full : many || full ≡ true → Leaves (new_in l n desk tag ref content) l l (Refused (record { number = DIR_BIG; place = 0 }))
+      add_full : many || full ≡ true → Leaves (new_in l n desk tag ref content) l l (Err (record { rule = DirBig; place = 0 }))
       unfolding add_at
-      add_full h = refuses l _ (ap (add_at (take n l) (length l) (named desk) tag ref content) no_free ∙ on_true (many || full) _ _ h) (suc-ne-zero 5)
+      add_full h = refuses l (record { rule = DirBig; place = 0 }) (ap (add_at (take n l) (length l) (named desk) tag ref content) no_free ∙ on_true (many || full) _ _ h)
 
-      pub add_blocks : most_blocks ≤ blocks → Leaves (new_in l n desk tag ref content) l l (Refused (record { number = DIR_BIG; place = 0 }))
+      pub add_blocks : most_blocks ≤ blocks → Leaves (new_in l n desk tag ref content) l l (Err (record { rule = DirBig; place = 0 }))
       add_blocks h = add_full (or_either many full (inl (le-leb most_blocks (length (blocks_of (take n l))) (omega (arith, blocks_are)))))
 
-      pub add_slots : most_slots < slots + block_slots → Leaves (new_in l n desk tag ref content) l l (Refused (record { number = DIR_BIG; place = 0 }))
+      pub add_slots : most_slots < slots + block_slots → Leaves (new_in l n desk tag ref content) l l (Err (record { rule = DirBig; place = 0 }))
       add_slots h = add_full (or_either many full (inr (lt-ltb most_slots (length (slots_of (take n l)) + block_slots) (omega (arith, slots_are)))))
 
-      pub add_block : blocks < most_blocks → slots + block_slots ≤ most_slots → (after : List ℕ) (r : Edited) → Leaves (block_in l n b desk tag ref content) l after r
+      pub add_block : blocks < most_blocks → slots + block_slots ≤ most_slots → (after : List ℕ) (r : Result ℕ Refusal) → Leaves (block_in l n b desk tag ref content) l after r
           → Leaves (new_in l n desk tag ref content) l after r
       unfolding add_at
       add_block few h after r =

@@ -10,6 +10,7 @@ use lib.ListN.{length, get_or, take, length-append}
 use lib.Seq.{length-take-le, get_or-take}
 use lib.Dec.{eqb}
 use borrow.Author.Tests.{le-leb, eq-eqb}
+use Rattle.std.specs.Prelude.{Some}
 use Rattle.wire.specs.Numbers.{put, Bytes}
 use Rattle.wire.proofs.Numbers.{Same, Holds, length_put, put_holds}
 use Rattle.answer.specs.Search.{In}
@@ -24,7 +25,6 @@ use Rattle.journal.specs.Outcomes.{granted, passing}
 use Rattle.journal.specs.Trailers.{slot_size, link_size, trailer_at, carried_by, previous_of, Author, form_of, desk_of, trailer_size, past_first, change_at, trailer_of}
 use Rattle.journal.specs.Undos.{restored, place_known, known, sound, restored_fault, for_desk, undo_to, undo_by, undo_of}
 use Rattle.journal.specs.History.{IsAuthor}
-use Rattle.journal.specs.declared.change.Ending.TheVariants.{Trailer}
 use Rattle.journal.proofs.Parts.{holds_appended, holds_append, same_append, put_before, put_after, put_back}
 use Rattle.journal.proofs.Outcomes.{opened_to_goes, opens_true}
 use Rattle.journal.proofs.Trailers.{Sized, length_trailer, trailer_read, trailer_ending, old_there}
@@ -38,7 +38,7 @@ pub record Changed (s : List ℕ) (author : Author) (q k : ℕ) (extra t : List 
   pub high : Same s t (q + k) (length s)
   pub more : Holds t (length s) extra
   pub trail : Bytes s → IsAuthor author → trailer_at (form_of author) t (length s + length extra) ≡ change_at s author q k
-  pub ending : Bytes s → IsAuthor author → 10 ≤ length s → carried_by t ≡ Trailer (form_of author)
+  pub ending : Bytes s → IsAuthor author → 10 ≤ length s → carried_by t ≡ Some (form_of author)
 
 -- vs put in place, extra and the trailer appended
 pub changed : (s : List ℕ) (author : Author) (q k : ℕ) (vs extra : List ℕ) → length vs ≡ k → q + k ≤ length s → length s ≤ most_bytes → k ≤ slot_size

@@ -9,6 +9,7 @@ use native.Mathlib.Omega.{arith}
 use lib.ListN.{length, take, length-take}
 use lib.Dec.{leb, ltb}
 use borrow.Author.Tests.{leb-false, ltb-false, not-true}
+use Rattle.std.specs.Prelude.{Some}
 use Rattle.wire.specs.Numbers.{Bytes}
 use Rattle.directory.specs.Limits.{most_bytes, most_blocks, most_slots, free_tag}
 use Rattle.answer.specs.Refusals.{DIR_BIG, ABSENT, PRESENT}
@@ -33,7 +34,6 @@ use Rattle.journal.specs.Buffers.{undo_in}
 use Rattle.journal.specs.History.{Edit, add, replace, remove, TypedEdit, IsAuthor, edited}
 use Rattle.journal.specs.EditRules.{tag_of, ref_of, content_of, SlotIs, TakesSlot, HoldsPair, HoldsEdit, Alters, added_at, length_after}
 use Rattle.journal.specs.Rules.{NoneFree}
-use Rattle.journal.specs.declared.change.Ending.TheVariants.{Trailer}
 use Rattle.journal.proofs.AllBytes.{bytes_free, bytes_data, bytes_slot_edit, bytes_block_edit}
 use Rattle.journal.proofs.Spacing.{slot_inside}
 use Rattle.journal.proofs.Frames.{Framed}
@@ -58,7 +58,7 @@ pub record Made (s : List ℕ) (capacity : ℕ) (author : Author) (e : Edit) (t 
   pub fits : length t ≤ capacity
   pub size : length t ≡ length_after author s e
   pub bytes : Bytes s → Bytes (content_of e) → Bytes t
-  pub ending : Bytes s → IsAuthor author → carried_by t ≡ Trailer (form_of author)
+  pub ending : Bytes s → IsAuthor author → carried_by t ≡ Some (form_of author)
   pub back : Bytes s → IsAuthor author → (desk : ℕ) → undo_of t desk ≡ for_desk (desk_of author) desk (length t - trailer_size author) s
   pub before : In slot (slots_of s) → Live s slot → Named s (tag_of e) (ref_of e) slot
   pub only : (p : ℕ) → Named s (tag_of e) (ref_of e) p → p ≡ slot

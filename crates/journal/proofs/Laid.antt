@@ -5,6 +5,9 @@ use mathlib.Core.Path.{◌≡◌, sym, ap, ◌∙◌}
 use mathlib.Core.List.{List, ◌++◌, append_assoc}
 use lib.ListN.{length, take, drop, length-append}
 use lib.Seq.{length-take-le}
+use Rattle.std.specs.Prelude.{Ok, Err}
+use Rattle.answer.specs.Refusals.{number_of}
+use Rattle.answer.specs.declared.refusals.Rule.{Rule}
 use Rattle.wire.specs.Numbers.{bytes, put}
 use Rattle.wire.specs.declared.ByteOrder.TheVariants.{BigEndian}
 use Rattle.wire.proofs.Numbers.{length_bytes, length_put, put_put, put_split, put_append}
@@ -14,7 +17,6 @@ use Rattle.journal.specs.Buffers.{Leaves}
 use Rattle.journal.specs.Steps.Changes.{slot_in, block_in}
 use Rattle.journal.specs.declared.change.Change.{Change}
 use Rattle.journal.specs.declared.change.Form.TheVariants.{Long}
-use Rattle.journal.specs.declared.Edited.TheVariants.{Granted, Refused}
 use Rattle.journal.proofs.Outcomes.{fits, fitted_there, fitted_fault}
 use Rattle.journal.proofs.Trailers.{length_trailer}
 use Rattle.journal.proofs.Runs.{length_data, length_block}
@@ -38,10 +40,10 @@ module _ (l : List ℕ) (n p : ℕ) (vs tail file : List ℕ) (fit : n ≤ lengt
       ∙ sym (append_assoc (put (take n l) p vs) tail d) ∙ rw (file_long, ← e)
 
   module _ (size : ℕ) (is : n + length tail ≡ size) where
-    tail_refused : (k : ℕ) → k ≡ fit_fault (length l) size → (k ≡ 0 → ⊥) → Leaves (fitted (length l) file) l l (Refused (record { number = k; place = 0 }))
-    tail_refused k q z = refuses l _ (fitted_fault (length l) file size (file_long ∙ is) k q z) z
+    tail_refused : (r : Rule) → number_of r ≡ fit_fault (length l) size → Leaves (fitted (length l) file) l l (Err (record { rule = r; place = 0 }))
+    tail_refused r q = refuses l (record { rule = r; place = 0 }) (fitted_fault (length l) file size (file_long ∙ is) r q)
 
-    tail_granted : fit_fault (length l) size ≡ 0 → (after : List ℕ) → after ≡ put (put l n tail) p vs → Leaves (fitted (length l) file) l after (Granted size)
+    tail_granted : fit_fault (length l) size ≡ 0 → (after : List ℕ) → after ≡ put (put l n tail) p vs → Leaves (fitted (length l) file) l after (Ok size)
     tail_granted q after a =
         let room = fits (length l) size q in
         grants l after file size (fitted_there (length l) file size (file_long ∙ is) q) (sym (file_long ∙ is)) (a ∙ laid_file (omega arith))
@@ -65,14 +67,14 @@ module _ (l : List ℕ) (n p : ℕ) (fit : n ≤ length l) (inside : p + slot_si
   slot_inside : p + length slot ≤ n
   slot_inside = omega (arith, length_data tag ref content n)
 
-  pub slot_refused : (k : ℕ) → k ≡ fit_fault (length l) (n + length content + form_size Long) → (k ≡ 0 → ⊥)
-      → Leaves (slot_in l n p desk tag ref content) l l (Refused (record { number = k; place = 0 }))
+  pub slot_refused : (r : Rule) → number_of r ≡ fit_fault (length l) (n + length content + form_size Long)
+      → Leaves (slot_in l n p desk tag ref content) l l (Err (record { rule = r; place = 0 }))
   slot_refused = tail_refused l n p slot slot_tail _ fit slot_inside slot_file _ slot_long
 
   pub slot_granted : {l₁ l₂ l₃ : List ℕ} (c : Change) (offset : ℕ) → fit_fault (length l) (n + length content + form_size Long) ≡ 0
       → c ≡ change_at (take n l) (named desk) p slot_size → offset ≡ data_offset content n
       → l₁ ≡ put l n content → l₂ ≡ put l₁ (n + length content) (trailer_bytes Long c) → l₃ ≡ put l₂ p (slot_bytes tag ref offset (length content))
-      → Leaves (slot_in l n p desk tag ref content) l l₃ (Granted (n + length content + form_size Long))
+      → Leaves (slot_in l n p desk tag ref content) l l₃ (Ok (n + length content + form_size Long))
   unfolding data_slot
   slot_granted {l₃} c offset q is o e₁ e₂ e₃ =
       tail_granted l n p slot slot_tail _ fit slot_inside slot_file _ slot_long q l₃
@@ -100,15 +102,15 @@ module _ (l : List ℕ) (n b : ℕ) (fit : n ≤ length l) (inside : b + 6 ≤ n
   link_inside : b + 2 + length (bytes 4 n) ≤ n
   link_inside = omega (arith, length_bytes BigEndian 4 n)
 
-  pub block_refused : (k : ℕ) → k ≡ fit_fault (length l) (n + block_size + length content + form_size Long) → (k ≡ 0 → ⊥)
-      → Leaves (block_in l n b desk tag ref content) l l (Refused (record { number = k; place = 0 }))
+  pub block_refused : (r : Rule) → number_of r ≡ fit_fault (length l) (n + block_size + length content + form_size Long)
+      → Leaves (block_in l n b desk tag ref content) l l (Err (record { rule = r; place = 0 }))
   block_refused = tail_refused l n (b + 2) (bytes 4 n) block_tail _ fit link_inside block_file _ block_long
 
   pub block_granted : {l₁ l₂ l₃ l₄ : List ℕ} (c : Change) (offset : ℕ) → fit_fault (length l) (n + block_size + length content + form_size Long) ≡ 0
       → c ≡ change_at (take n l) (named desk) (b + 2) link_size → offset ≡ data_offset content (n + block_size)
       → l₁ ≡ put l n (new_block (slot_bytes tag ref offset (length content))) → l₂ ≡ put l₁ (n + block_size) content
       → l₃ ≡ put l₂ (n + block_size + length content) (trailer_bytes Long c) → l₄ ≡ put l₃ (b + 2) (bytes 4 n)
-      → Leaves (block_in l n b desk tag ref content) l l₄ (Granted (n + block_size + length content + form_size Long))
+      → Leaves (block_in l n b desk tag ref content) l l₄ (Ok (n + block_size + length content + form_size Long))
   unfolding data_slot
   block_granted {l₁} {l₂} {l₃} {l₄} c offset q is o e₁ e₂ e₃ e₄ =
       let f₂ : l₂ ≡ put l n (block ++ content) =

@@ -9,23 +9,23 @@ use native.Mathlib.Omega.{arith}
 use lib.ListN.{length}
 use lib.Dec.{leb, eqb}
 use borrow.Author.Tests.{leb-true, leb-false, le-leb, lt-leb, eqb-true, eqb-false, eq-eqb, ne_eqb}
-use Rattle.answer.specs.Refusals.{TOO_LONG, BAD_TAG, NO_ROOM}
+use Rattle.std.specs.Prelude.{Result, Ok, Err, is_ok}
+use Rattle.answer.specs.Refusals.{TOO_LONG, BAD_TAG, NO_ROOM, number_of}
 use Rattle.answer.specs.Search.{Hit, hit, miss}
+use Rattle.answer.specs.Answer.{refuse}
 use Rattle.answer.specs.declared.Refusal.{Refusal}
-use Rattle.answer.proofs.Tests.{or_clear, or_neither, and_fails, picks, zero?, same?}
+use Rattle.answer.specs.declared.refusals.Rule.{Rule}
+use Rattle.answer.proofs.Answer.{number_positive, refusal_is}
+use Rattle.answer.proofs.Tests.{test, or_clear, or_neither, and_fails, picks, zero?, same?}
 use Rattle.answer.proofs.Search.{must_holds, must_fails, passed}
 use Rattle.directory.specs.Limits.{most_bytes, free_tag, lone_tag, extended_free}
 use Rattle.directory.specs.Slots.{base_tag}
-use Rattle.directory.specs.Opening.{opened_numbers, refusal_of, open_of}
+use Rattle.directory.specs.Opening.{opened_numbers, open_of}
 use Rattle.directory.specs.Lookup.{hit_found, find, find_in}
 use Rattle.directory.specs.Steps.Opens.{Opens}
-use Rattle.directory.specs.declared.Found.{Found}
 use Rattle.directory.specs.declared.Counts.{Counts}
-use Rattle.directory.specs.declared.Opened.{Opened}
-use Rattle.directory.specs.declared.Opened.TheVariants.{Accepted, Refused}
-use Rattle.directory.specs.declared.Found.TheVariants.{At, Missing}
 use Rattle.directory.proofs.Claims.{base_tag_plain}
-use Rattle.directory.proofs.Opens.{accepted_with, opened_find, refused_positive, refused_answer}
+use Rattle.directory.proofs.Opens.{accepted_with, opened_find}
 use Rattle.journal.specs.Outcomes.{Outcome, granted, refused, passing, opened_to}
 use Rattle.journal.specs.Undos.{opens}
 use Rattle.journal.specs.Rules.{EditTag}
@@ -44,18 +44,18 @@ hit_picks (hit p) a b o e = inl (p, refl, e)
 hit_picks miss a b o e = inr (refl, e)
 
 -- what a lookup in an image that opened found
-module _ (s : List ℕ) (blocks tag ref : ℕ) (o : Opens s blocks) (f : Found) (is : f ≡ hit_found (find_in s blocks tag ref)) where
-  pub found_hit : (p : ℕ) → f ≡ At p → find s tag ref ≡ hit p
+module _ (s : List ℕ) (blocks tag ref : ℕ) (o : Opens s blocks) (f : Result ℕ Refusal) (is : f ≡ hit_found (find_in s blocks tag ref)) where
+  pub found_hit : (p : ℕ) → f ≡ Ok p → find s tag ref ≡ hit p
   found_hit p e = sym (opened_find s blocks tag ref o) ∙ go (find_in s blocks tag ref) (sym is ∙ e)
     where
-      go : (h : Hit) → hit_found h ≡ At p → h ≡ hit p
+      go : (h : Hit) → hit_found h ≡ Ok p → h ≡ hit p
       go (hit q) e = cc
       go miss e = let z : ◌≡◌ {A = ℕ} 0 1 = cc in absurd (omega arith)
 
-  pub found_miss : (r : Refusal) → f ≡ Missing r → find s tag ref ≡ miss
+  pub found_miss : (r : Refusal) → f ≡ Err r → find s tag ref ≡ miss
   found_miss r e = sym (opened_find s blocks tag ref o) ∙ go (find_in s blocks tag ref) (sym is ∙ e)
     where
-      go : (h : Hit) → hit_found h ≡ Missing r → h ≡ miss
+      go : (h : Hit) → hit_found h ≡ Err r → h ≡ miss
       go (hit q) e = let z : ◌≡◌ {A = ℕ} 0 1 = cc in absurd (omega arith)
       go miss e = refl
 
@@ -120,48 +120,31 @@ unfolding opens
 opens_true s = (eqb-true (open_of s).number 0, eq-eqb (open_of s).number 0)
 
 -- by opening's answer
-module _ (s : List ℕ) (o : Opened) (answers : opened_numbers o ≡ open_of s) where
-  pub opens_yes : (c : Counts) → o ≡ Accepted c → opens s ≡ true
+module _ (s : List ℕ) (o : Result Counts Refusal) (answers : opened_numbers o ≡ open_of s) where
+  pub opens_yes : (c : Counts) → o ≡ Ok c → opens s ≡ true
   opens_yes c e = (opens_true s).1 (accepted_with s o answers c e).sound
 
-  module _ (r : Refusal) (e : o ≡ Refused r) where
+  module _ (r : Refusal) (e : o ≡ Err r) where
+    refused_answer : open_of s ≡ refuse 3 (number_of r.rule) r.place
+    refused_answer = sym answers ∙ ap opened_numbers e ∙ refusal_is 3 r
+
     closed : (open_of s).number ≡ 0 → ⊥
-    closed z = refused_positive s o answers r e (sym (ap (λ a. a.number) (refused_answer s o answers r e)) ∙ z)
+    closed z = number_positive r.rule (sym (ap (λ a. a.number) refused_answer) ∙ z)
 
     pub opens_no : opens s ≡ false
     unfolding opens
     opens_no = ne_eqb _ _ closed
 
     -- the refusal that a call passes on, whatever comes after
-    pub opened_stops : (rest : Outcome) → opened_to s rest ≡ refused (refusal_of o).number (refusal_of o).place
+    pub opened_stops : (rest : Outcome) → opened_to s rest ≡ refused (number_of r.rule) r.place
     unfolding opened_to
-    opened_stops rest = passing_stops _ _ rest closed ∙ ap (λ a. refused a.number a.place) (refused_answer s o answers r e)
+    opened_stops rest = passing_stops _ _ rest closed ∙ ap (λ a. refused a.number a.place) refused_answer
+
+pub opens_is : (s : List ℕ) (o : Result Counts Refusal) → opened_numbers o ≡ open_of s → is_ok o ≡ opens s
+opens_is s (Ok c) e = sym (opens_yes s (Ok c) e c refl)
+opens_is s (Err r) e = sym (opens_no s (Err r) e r refl)
 
 -- ---- An edit's tag
-
-module _ (tag : ℕ) where
-  pub bad_zero : tag ≡ 0 → bad_tag tag ≡ true
-  unfolding bad_tag
-  bad_zero h = rw (bad_tag, eq-eqb _ _ h)
-
-  module _ (some : tag ≡ 0 → ⊥) where
-    pub bad_free : tag ≡ 1 → bad_tag tag ≡ true
-    unfolding bad_tag
-    bad_free h = rw (bad_tag, ne_eqb _ _ some, eq-eqb _ _ h)
-
-    module _ (used : tag ≡ 1 → ⊥) where
-      pub bad_lone : tag ≡ 107 → bad_tag tag ≡ true
-      unfolding bad_tag
-      bad_lone h = rw (bad_tag, ne_eqb _ _ some, ne_eqb _ _ used, eq-eqb _ _ h)
-
-      module _ (common : tag ≡ 107 → ⊥) where
-        pub good_below : tag < 16384 → bad_tag tag ≡ false
-        unfolding bad_tag
-        good_below h = rw (bad_tag, ne_eqb _ _ some, ne_eqb _ _ used, ne_eqb _ _ common, lt-leb _ _ h)
-
-        pub bad_extended : 16384 ≤ tag → bad_tag tag ≡ leb tag 32767
-        unfolding bad_tag
-        bad_extended h = rw (bad_tag, ne_eqb _ _ some, ne_eqb _ _ used, ne_eqb _ _ common, le-leb _ _ h)
 
 -- the tags that edits take, by the test
 pub tag_good : (tag : ℕ) → bad_tag tag ≡ false → EditTag tag
@@ -182,6 +165,9 @@ unfolding bad_tag
 tag_bad tag g =
     or_neither _ _ (or_neither _ _ (or_neither _ _ (ne_eqb _ _ g.0) (ne_eqb _ _ g.1)) (ne_eqb _ _ g.2))
     (elim g.3 [ inl l ↦ rw (lt-leb _ _ l) | inr l ↦ rw (lt-leb _ _ l) (and-false (leb 16384 tag)) ])
+
+pub tag_other : (tag : ℕ) → (EditTag tag → ⊥) → bad_tag tag ≡ true
+tag_other tag z = elim (test (bad_tag tag)) [ inl e ↦ e | inr e ↦ absurd (z (tag_good tag e)) ]
 
 -- what follows of such a tag
 pub record Taken (tag : ℕ) : Type 0 where
@@ -249,11 +235,11 @@ module _ (capacity : ℕ) (file : List ℕ) (size : ℕ) (is : length file ≡ s
   unfolding fitted
   fitted_there e = passing_goes _ 0 _ (rw is e)
 
-  pub fitted_fault : (k : ℕ) → k ≡ fit_fault capacity size → (k ≡ 0 → ⊥) → fitted capacity file ≡ refused k 0
+  pub fitted_fault : (r : Rule) → number_of r ≡ fit_fault capacity size → fitted capacity file ≡ refused (number_of r) 0
   unfolding fitted
-  fitted_fault k q z =
-      let e : fit_fault capacity (length file) ≡ k = ap (fit_fault capacity) is ∙ sym q in
-      passing_stops _ 0 _ (λ h. z (sym e ∙ h)) ∙ ap (λ m. refused m 0) e
+  fitted_fault r q =
+      let e : fit_fault capacity (length file) ≡ number_of r = ap (fit_fault capacity) is ∙ sym q in
+      passing_stops _ 0 _ (λ h. number_positive r (sym e ∙ h)) ∙ ap (λ m. refused m 0) e
 
 pub fitted_granted : (capacity : ℕ) (u t : List ℕ) → fitted capacity u ≡ granted t → (length u ≤ most_bytes) × (length u ≤ capacity) × (u ≡ t)
 unfolding fitted

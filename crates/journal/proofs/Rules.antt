@@ -10,6 +10,7 @@ use lib.ListN.{length, take, length-append}
 use lib.Dec.{leb, ltb}
 use borrow.Author.Tests.{leb-true, leb-false, lt-leb, le-ltb, ltb-false, not-true}
 use Rattle.wire.proofs.Numbers.{length_put}
+use Rattle.answer.specs.declared.refusals.Rule.TheVariants.{TooLong, NoRoom}
 use Rattle.answer.specs.Search.{Hit, hit, miss}
 use Rattle.answer.specs.Rules.{Rules, done, rule, AllHold, FirstBroken}
 use Rattle.answer.proofs.Tests.{test, same?, le?, or_clear, or_neither, on_true, on_false, not_both}
@@ -94,9 +95,9 @@ by_fit : (capacity : ℕ) (file : List ℕ) (size : ℕ) → length file ≡ siz
     → By (rule 1 0 Short (rule 19 0 Fits done)) (fitted capacity file)
 by_fit capacity file size is Short Fits short fits =
     by_rule _ 1 0 Short _ (decided short (le? size 2147483647))
-    (λ z. fitted_fault capacity file size is 1 (sym (fault_long capacity size (over 2147483647 (λ l. z (short.1 l))))) (λ e. omega arith))
+    (λ z. fitted_fault capacity file size is TooLong (sym (fault_long capacity size (over 2147483647 (λ l. z (short.1 l))))))
     (λ a. by_rule _ 19 0 Fits done (decided fits (le? size capacity))
-    (λ z. fitted_fault capacity file size is 19 (sym (fault_room capacity size (short.0 a) (over capacity (λ l. z (fits.1 l))))) (λ e. omega arith))
+    (λ z. fitted_fault capacity file size is NoRoom (sym (fault_room capacity size (short.0 a) (over capacity (λ l. z (fits.1 l))))))
     (λ b. by_done _ file (fitted_there capacity file size is (fault_none capacity size (short.0 a) (fits.0 b)))))
   where
     over : (most : ℕ) → (size ≤ most → ⊥) → most < size

@@ -10,6 +10,7 @@ use mathlib.Core.Bool.{Bool, true, false}
 use lib.ListN.{length, get_or, length-append}
 use lib.Dec.{leb, eqb}
 use borrow.Author.Tests.{le-leb, lt-leb, leb-true, eqb-true, eq-eqb, ne_eqb}
+use Rattle.std.specs.Prelude.{Option, Some, None}
 use Rattle.wire.specs.Numbers.{be, bytes, put, part, Bytes}
 use Rattle.wire.specs.declared.ByteOrder.TheVariants.{BigEndian}
 use Rattle.wire.specs.Layouts.{end, number, read, pack, given, numbers, Fits}
@@ -23,8 +24,6 @@ use Rattle.journal.specs.Steps.Restores.{desk_at}
 use Rattle.journal.specs.declared.change.Change.{Change}
 use Rattle.journal.specs.declared.change.Form.{Form}
 use Rattle.journal.specs.declared.change.Form.TheVariants.{Old, Long}
-use Rattle.journal.specs.declared.change.Ending.{Ending}
-use Rattle.journal.specs.declared.change.Ending.TheVariants.{Nothing, Trailer}
 
 -- ---- Sizes and fields
 
@@ -96,27 +95,27 @@ only_old : (s : List ℕ) → carries Old s ≡ true → carries Long s ≡ fals
 only_old s h = fails (carries Long s) (λ l. not_both_forms _ ((carries_is Old s).0 h).1 ((carries_is Long s).0 l).1)
 
 -- which it is, by both tests
-pub ending_long : (s : List ℕ) → carries Long s ≡ true → carried_by s ≡ Trailer Long
+pub ending_long : (s : List ℕ) → carries Long s ≡ true → carried_by s ≡ Some Long
 unfolding carried_by
 ending_long s h = rw (carried_by, h)
 
-pub ending_old : (s : List ℕ) → carries Long s ≡ false → carries Old s ≡ true → carried_by s ≡ Trailer Old
+pub ending_old : (s : List ℕ) → carries Long s ≡ false → carries Old s ≡ true → carried_by s ≡ Some Old
 unfolding carried_by
 ending_old s h g = rw (carried_by, h, g)
 
-pub ending_none : (s : List ℕ) → carries Long s ≡ false → carries Old s ≡ false → carried_by s ≡ Nothing
+pub ending_none : (s : List ℕ) → carries Long s ≡ false → carries Old s ≡ false → carried_by s ≡ None
 unfolding carried_by
 ending_none s h g = rw (carried_by, h, g)
 
 -- by the one of its form
-pub ending_by : (form : Form) (s : List ℕ) → carries form s ≡ true → carried_by s ≡ Trailer form
+pub ending_by : (form : Form) (s : List ℕ) → carries form s ≡ true → carried_by s ≡ Some form
 ending_by Old s h = ending_old s (only_old s h) h
 ending_by Long s h = ending_long s h
 
 -- and what it tells
-pub record Ends (s : List ℕ) (ending : Ending) : Type 0 where
-  pub of_form : (form : Form) → ending ≡ Trailer form → carries form s ≡ true
-  pub of_none : ending ≡ Nothing → (form : Form) → carries form s ≡ false
+pub record Ends (s : List ℕ) (ending : Option Form) : Type 0 where
+  pub of_form : (form : Form) → ending ≡ Some form → carries form s ≡ true
+  pub of_none : ending ≡ None → (form : Form) → carries form s ≡ false
 
 ends : (s : List ℕ) → Ends s (carried_by s)
 ends s = elim (test (carries Long s)) [
@@ -127,33 +126,33 @@ ends s = elim (test (carries Long s)) [
   ]
 ]
   where
-    no_form : (form : Form) → Trailer form ≡ Nothing → ⊥
+    no_form : (form : Form) → Some form ≡ None → ⊥
     no_form form e = let z : ◌≡◌ {A = ℕ} 0 1 = cc in omega arith
 
-    same_form : (a b : Form) → Trailer a ≡ Trailer b → a ≡ b
+    same_form : (a b : Form) → Some a ≡ Some b → a ≡ b
     same_form a b e = cc
 
     each : carries Long s ≡ false → carries Old s ≡ false → (form : Form) → carries form s ≡ false
     each h g Old = g
     each h g Long = h
 
-pub ending_carries : (form : Form) (s : List ℕ) → carried_by s ≡ Trailer form → carries form s ≡ true
+pub ending_carries : (form : Form) (s : List ℕ) → carried_by s ≡ Some form → carries form s ≡ true
 ending_carries form s e = (ends s).of_form form e
 
-pub ending_nothing : (s : List ℕ) → carried_by s ≡ Nothing → (form : Form) → carries form s ≡ false
+pub ending_nothing : (s : List ℕ) → carried_by s ≡ None → (form : Form) → carries form s ≡ false
 ending_nothing s e = (ends s).of_none e
 
-pub ending_least : (form : Form) (s : List ℕ) → carried_by s ≡ Trailer form → least_before + form_size form ≤ length s
+pub ending_least : (form : Form) (s : List ℕ) → carried_by s ≡ Some form → least_before + form_size form ≤ length s
 ending_least form s e = ((carries_is form s).0 (ending_carries form s e)).0
 
 -- ---- The previous trailer
 
 module _ (form : Form) (s : List ℕ) where
-  pub previous_none : carried_by s ≡ Nothing → previous_of form s ≡ 0
+  pub previous_none : carried_by s ≡ None → previous_of form s ≡ 0
   unfolding previous_of previous_at
   previous_none e = rw (previous_of, e)
 
-  module _ (there : Form) (e : carried_by s ≡ Trailer there) where
+  module _ (there : Form) (e : carried_by s ≡ Some there) where
     pub previous_there : counts_form form there ≡ true → previous_of form s ≡ length s - form_size there
     unfolding previous_of previous_at
     previous_there c = ap (previous_at form (length s)) e ∙ on_true (counts_form form there) _ _ c
@@ -166,9 +165,9 @@ module _ (form : Form) (s : List ℕ) where
   unfolding previous_of previous_at
   previous_le = go (carried_by s)
     where
-      go : (e : Ending) → previous_at form (length s) e ≤ length s
-      go Nothing = omega arith
-      go (Trailer there) = elim (counts_form form there) as (λ (b : Bool). elim b [ true ↦ length s - form_size there | false ↦ 0 ] ≤ length s) [ true ↦ omega arith | false ↦ omega arith ]
+      go : (e : Option Form) → previous_at form (length s) e ≤ length s
+      go None = omega arith
+      go (Some there) = elim (counts_form form there) as (λ (b : Bool). elim b [ true ↦ length s - form_size there | false ↦ 0 ] ≤ length s) [ true ↦ omega arith | false ↦ omega arith ]
 
 -- ---- Read where it was appended
 
@@ -241,7 +240,7 @@ module _ (s : List ℕ) (all : Bytes s) (short : length s ≤ most_bytes) (p k :
         go unnamed = refl
         go (named desk) = refl
 
-    pub trailer_ending : 10 ≤ at → carried_by (front ++ trailer_of s author p k) ≡ Trailer (form_of author)
+    pub trailer_ending : 10 ≤ at → carried_by (front ++ trailer_of s author p k) ≡ Some (form_of author)
     trailer_ending ten =
         let t = front ++ trailer_of s author p k in
         let size : length t ≡ at + trailer_size author = length-append front (trailer_of s author p k) ∙ rw (n, length_trailer) in

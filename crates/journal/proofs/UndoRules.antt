@@ -10,6 +10,7 @@ use native.Mathlib.Omega.{arith}
 use lib.ListN.{length, take}
 use lib.Dec.{leb, eqb}
 use borrow.Author.Tests.{leb-true, le-leb, eqb-true, eq-eqb, ne_eqb}
+use Rattle.std.specs.Prelude.{Option, Some, None}
 use Rattle.wire.specs.Numbers.{be, put, Bytes}
 use Rattle.wire.specs.declared.ByteOrder.TheVariants.{BigEndian}
 use Rattle.wire.proofs.Numbers.{bytes_of_number, bytes_take}
@@ -29,8 +30,6 @@ use Rattle.journal.specs.Steps.Restores.{desk_at}
 use Rattle.journal.specs.declared.change.Change.{Change}
 use Rattle.journal.specs.declared.change.Form.{Form}
 use Rattle.journal.specs.declared.change.Form.TheVariants.{Old, Long}
-use Rattle.journal.specs.declared.change.Ending.{Ending}
-use Rattle.journal.specs.declared.change.Ending.TheVariants.{Nothing, Trailer}
 use Rattle.journal.specs.Rules.{CarriesOld, CarriesLong, ends_long, trailer_place, place_altered, bytes_altered, old_at, padding_at, length_before, previous_trailer, desk_named, image_before, AlteredKnown, PaddingZero, PreviousIs, undo_rules}
 use Rattle.journal.proofs.Outcomes.{opens_true, passing_goes, passing_stops}
 use Rattle.journal.proofs.Trailers.{trailer_fields, slot_old, carries_is, not_both_forms, ending_carries, ending_nothing, ending_least, previous_none, previous_there, previous_other}
@@ -48,10 +47,10 @@ module _ (s : List ℕ) where
   pub long_is : (carries Long s ≡ true) ↔ CarriesLong s
   long_is = carries_is Long s
 
-  bare : carried_by s ≡ Nothing → (CarriesOld s → ⊥) × (CarriesLong s → ⊥)
+  bare : carried_by s ≡ None → (CarriesOld s → ⊥) × (CarriesLong s → ⊥)
   bare e = ((λ h. not_both (carries Old s) (ending_nothing s e Old) (old_is.1 h)), (λ h. not_both (carries Long s) (ending_nothing s e Long) (long_is.1 h)))
 
-  there_is : (form : Form) → carried_by s ≡ Trailer form → CarriesOld s ⊎ CarriesLong s
+  there_is : (form : Form) → carried_by s ≡ Some form → CarriesOld s ⊎ CarriesLong s
   there_is Old e = inl (old_is.0 (ending_carries Old s e))
   there_is Long e = inr (long_is.0 (ending_carries Long s e))
 
@@ -63,17 +62,17 @@ abbrev is_long : Form → Bool
 is_long Old = false
 is_long Long = true
 
-ends_by : (form : Form) (s : List ℕ) → carried_by s ≡ Trailer form → ends_long s ≡ is_long form
+ends_by : (form : Form) (s : List ℕ) → carried_by s ≡ Some form → ends_long s ≡ is_long form
 unfolding ends_long
 ends_by Old s e = ne_eqb (be 4 s (length s - 4)) 0x42414332 (not_both_forms _ ((carries_is Old s).0 (ending_carries Old s e)).1)
 ends_by Long s e = eq-eqb (be 4 s (length s - 4)) 0x42414332 ((carries_is Long s).0 (ending_carries Long s e)).1
 
 -- what goes by the closing bytes
-by_ends : {A : Type 0} (form : Form) (s : List ℕ) → carried_by s ≡ Trailer form → (long old : A)
+by_ends : {A : Type 0} (form : Form) (s : List ℕ) → carried_by s ≡ Some form → (long old : A)
     → ◌≡◌ {A = A} (elim (ends_long s) [ true ↦ long | false ↦ old ]) (elim (is_long form) [ true ↦ long | false ↦ old ])
 by_ends form s e long old = rw (ends_by form s e)
 
-place_is : (form : Form) (s : List ℕ) → carried_by s ≡ Trailer form → length s - form_size form ≡ trailer_place s
+place_is : (form : Form) (s : List ℕ) → carried_by s ≡ Some form → length s - form_size form ≡ trailer_place s
 place_is form s e = ap (λ k. length s - k) (go form ∙ sym (by_ends form s e 36 32))
   where
     go : (f : Form) → ◌≡◌ {A = ℕ} (form_size f) (elim (is_long f) [ true ↦ 36 | false ↦ 32 ])
@@ -94,29 +93,29 @@ fields s =
       desk = desk_named s;
     }
 
-desk_is : (form : Form) (s : List ℕ) → carried_by s ≡ Trailer form → desk_at form s (trailer_place s) ≡ desk_named s
+desk_is : (form : Form) (s : List ℕ) → carried_by s ≡ Some form → desk_at form s (trailer_place s) ≡ desk_named s
 unfolding desk_at
 desk_is Old s e = sym (by_ends Old s e (be 4 s (trailer_place s + 28)) 0)
 desk_is Long s e = sym (by_ends Long s e (be 4 s (trailer_place s + 28)) 0)
 
-fields_are : (form : Form) (s : List ℕ) → carried_by s ≡ Trailer form → trailer_at form s (trailer_place s) ≡ fields s
+fields_are : (form : Form) (s : List ℕ) → carried_by s ≡ Some form → trailer_at form s (trailer_place s) ≡ fields s
 fields_are form s e =
     let third : trailer_place s + 12 + 4 ≡ trailer_place s + 16 = omega arith in
     trailer_fields form s (trailer_place s) ∙ rw (desk_is form s e, third)
 
-change_is : (form : Form) (s : List ℕ) → carried_by s ≡ Trailer form → change_of form s ≡ fields s
+change_is : (form : Form) (s : List ℕ) → carried_by s ≡ Some form → change_of form s ≡ fields s
 change_is form s e = rw (place_is form s e) (fields_are form s e)
 
-pub desk_is_named : (form : Form) (s : List ℕ) → carried_by s ≡ Trailer form → (change_of form s).desk ≡ desk_named s
+pub desk_is_named : (form : Form) (s : List ℕ) → carried_by s ≡ Some form → (change_of form s).desk ≡ desk_named s
 desk_is_named form s e = ap (λ (c : Change). c.desk) (change_is form s e)
 
 -- the previous trailer by its count
-module _ (form : Form) (s : List ℕ) (carrying : carried_by s ≡ Trailer form) (previous : ℕ) (old : List ℕ) where
+module _ (form : Form) (s : List ℕ) (carrying : carried_by s ≡ Some form) (previous : ℕ) (old : List ℕ) where
   counts_old : (f : Form) → counts_form f Old ≡ true
   counts_old Old = refl
   counts_old Long = refl
 
-  long_there : (f : Form) → carried_by s ≡ Trailer f → carried_by old ≡ Trailer Long
+  long_there : (f : Form) → carried_by s ≡ Some f → carried_by old ≡ Some Long
       → previous_of f old ≡ elim (ends_long s) [ true ↦ length old - 36 | false ↦ 0 ]
   long_there Old c e = previous_other Old old Long e refl ∙ sym (by_ends Old s c (length old - 36) 0)
   long_there Long c e = previous_there Long old Long e refl ∙ sym (by_ends Long s c (length old - 36) 0)
@@ -127,17 +126,17 @@ module _ (form : Form) (s : List ℕ) (carrying : carried_by s ≡ Trailer form)
       by : {P : Type 0} → (previous ≡ previous_of form old → P) → (P → previous ≡ previous_of form old) → (eqb previous (previous_of form old) ≡ true) ↔ P
       by to from = ((λ e. to (eqb-true previous (previous_of form old) e)), (λ h. eq-eqb previous (previous_of form old) (from h)))
 
-      go : (ending : Ending) → carried_by old ≡ ending → (eqb previous (previous_of form old) ≡ true) ↔ PreviousIs s previous old
-      go Nothing e =
+      go : (ending : Option Form) → carried_by old ≡ ending → (eqb previous (previous_of form old) ≡ true) ↔ PreviousIs s previous old
+      go None e =
           let none = bare old e in
           by (λ q. record { of_old = λ a. absurd (none.0 a); of_long = λ a. absurd (none.1 a); of_none = λ a b. q ∙ previous_none form old e })
           (λ h. h.of_none none.0 none.1 ∙ sym (previous_none form old e))
-      go (Trailer Old) e =
+      go (Some Old) e =
           let there = (old_is old).0 (ending_carries Old old e) in
           let is = previous_there form old Old e (counts_old form) in
           by (λ q. record { of_old = λ a. q ∙ is; of_long = λ a. absurd (not_two old there a); of_none = λ a b. absurd (a there) })
           (λ h. h.of_old there ∙ sym is)
-      go (Trailer Long) e =
+      go (Some Long) e =
           let there = (long_is old).0 (ending_carries Long old e) in
           let is = long_there form carrying e in
           by (λ q. record { of_old = λ a. absurd (not_two old a there); of_long = λ a. q ∙ is; of_none = λ a b. absurd (b there) })
@@ -207,7 +206,7 @@ module _ (s : List ℕ) where
     ]
   ]
 
-module _ (form : Form) (s : List ℕ) (all : Bytes s) (carrying : carried_by s ≡ Trailer form) where
+module _ (form : Form) (s : List ℕ) (all : Bytes s) (carrying : carried_by s ≡ Some form) where
   abbrev t : ℕ
   t = trailer_place s
 
@@ -215,7 +214,7 @@ module _ (form : Form) (s : List ℕ) (all : Bytes s) (carrying : carried_by s �
   fields_inside : t + 32 ≤ length s
   fields_inside = go form carrying
     where
-      go : (f : Form) → carried_by s ≡ Trailer f → t + 32 ≤ length s
+      go : (f : Form) → carried_by s ≡ Some f → t + 32 ≤ length s
       go Old e = omega (arith, place_is Old s e, ending_least Old s e)
       go Long e = omega (arith, place_is Long s e, ending_least Long s e)
 
@@ -300,16 +299,16 @@ module _ (buffer : List ℕ) (n desk : ℕ) (all : Bytes buffer) where
   unfolding undo_in undo_of undo_by
   undo_by_lem = by_image buffer n _ _ (λ fits opens. go (carried_by (take n buffer)) refl)
     where
-      go : (ending : Ending) → carried_by (take n buffer) ≡ ending
+      go : (ending : Option Form) → carried_by (take n buffer) ≡ ending
           → let s = take n buffer in let t = trailer_place s in
           By (rule 20 0 (CarriesOld s ⊎ CarriesLong s) (rule 21 t (length_before s ≤ t) (rule 21 t (AlteredKnown s)
           (rule 21 t (place_altered s + bytes_altered s ≤ length_before s) (rule 21 t (PaddingZero s) (rule 21 t (PreviousIs s (previous_trailer s) (image_before s))
           (rule 21 t ((open_of (image_before s)).number ≡ 0) (rule 30 t (desk_named s ≡ desk) done)))))))) (undo_by s desk ending)
-      go Nothing e =
+      go None e =
           let none : CarriesOld (take n buffer) ⊎ CarriesLong (take n buffer) → ⊥ =
           λ h. elim h [ inl a ↦ (bare (take n buffer) e).0 a | inr b ↦ (bare (take n buffer) e).1 b ] in
           by_rule _ 20 0 _ _ (inr none) (λ z. refl) (λ h. absurd (none h))
-      go (Trailer form) e =
+      go (Some form) e =
           let s = take n buffer in
           let there = there_is s form e in
           by_rule _ 20 0 _ _ (inl there) (λ z. absurd (z there))

@@ -1,6 +1,6 @@
 -- The laws of undo: the rules of a trailer by the tests of the code, the old bytes put back, and what it tells that undo is granted.
 -- Assumes nothing.
-use Prim.Native.Nat.{ℕ, ◌+◌, ◌-◌, ◌<◌, ◌≤◌}
+use Prim.Native.Nat.{ℕ, ◌+◌, ◌-◌, ◌≤◌}
 use mathlib.Core.Path.{◌≡◌, refl, sym, ap, ◌∙◌}
 use mathlib.Core.Logic.{inl, inr}
 use mathlib.Core.List.{List, ◌++◌}
@@ -10,7 +10,8 @@ use native.Mathlib.Omega.{arith}
 use lib.ListN.{length, take, drop}
 use lib.Seq.{length-take-le, take-take}
 use lib.Dec.{leb, eqb}
-use borrow.Author.Tests.{leb-true, le-leb, lt-leb, eqb-true, eq-eqb, ne_eqb}
+use borrow.Author.Tests.{leb-true, eqb-true, eq-eqb, ne_eqb}
+use Rattle.std.specs.Prelude.{Option, Some, None}
 use Rattle.wire.specs.Numbers.{put}
 use Rattle.wire.proofs.Numbers.{length_put}
 use Rattle.answer.specs.Refusals.{BAD_TRAILER}
@@ -26,36 +27,43 @@ use Rattle.journal.specs.Trailers.{form_size, slot_size, link_size, trailer_at, 
 use Rattle.journal.specs.Undos.{restored, place_known, known, opens, sound, desk_fault, for_desk, restored_fault, undo_to, undo_by, undo_of}
 use Rattle.journal.specs.declared.change.Change.{Change}
 use Rattle.journal.specs.declared.change.Form.{Form}
-use Rattle.journal.specs.declared.change.Ending.{Ending}
-use Rattle.journal.specs.declared.change.Ending.TheVariants.{Nothing, Trailer}
 use Rattle.journal.proofs.Parts.{put_inside}
 use Rattle.journal.proofs.Outcomes.{refused_granted, granted_same, passing_goes, passing_stops, passing_granted, opened_granted, opens_true}
 use Rattle.journal.proofs.Trailers.{Sized, length_old, ending_least}
 
 -- ---- The rules by the present image
 
-module _ (s : List ℕ) (t : ℕ) (c : Change) where
-  pub unknown_long : t < c.before → known s t c ≡ false
-  unfolding known
-  unknown_long h = rw (known, lt-leb _ _ h)
+module _ (s : List ℕ) (c : Change) where
+  pub place_slot : c.altered ≡ slot_size → place_known s c ≡ any (eqb c.place) (slots_of s)
+  unfolding place_known
+  place_slot e = rw (place_known, e) (or_none (any (eqb c.place) (slots_of s)))
+    where
+      or_none : (b : Bool) → b || false ≡ b
+      or_none true = refl
+      or_none false = refl
 
-  module _ (shorter : c.before ≤ t) where
-    pub known_slot : c.altered ≡ slot_size → known s t c ≡ any (eqb c.place) (slots_of s) && leb (c.place + slot_size) c.before
-    unfolding known place_known
-    known_slot e = rw (known, le-leb _ _ shorter, place_known, e) (or_none (any (eqb c.place) (slots_of s)) (leb (c.place + slot_size) c.before))
-      where
-        or_none : (a b : Bool) → (a || false) && b ≡ a && b
-        or_none true b = refl
-        or_none false b = refl
+  pub place_link : c.altered ≡ link_size → place_known s c ≡ any (is_link c.place) (blocks_of s) && eqb c.second 0 && eqb c.third 0
+  unfolding place_known
+  place_link e = rw (place_known, e)
 
-    pub unknown_size : (c.altered ≡ slot_size → ⊥) → (c.altered ≡ link_size → ⊥) → known s t c ≡ false
-    unfolding known place_known
-    unknown_size h k = rw (known, le-leb _ _ shorter, place_known, ne_eqb _ _ h, ne_eqb _ _ k)
+  pub place_none : (c.altered ≡ slot_size → ⊥) → (c.altered ≡ link_size → ⊥) → place_known s c ≡ false
+  unfolding place_known
+  place_none h k = rw (place_known, ne_eqb _ _ h, ne_eqb _ _ k)
 
-    pub known_link : c.altered ≡ link_size
-        → known s t c ≡ any (is_link c.place) (blocks_of s) && eqb c.second 0 && eqb c.third 0 && leb (c.place + link_size) c.before
-    unfolding known place_known
-    known_link e = rw (known, le-leb _ _ shorter, place_known, e)
+  pub place_sized : place_known s c ≡ true → Sized c.altered
+  unfolding place_known
+  place_sized e =
+      let slot = any (eqb c.place) (slots_of s) in
+      let link = any (is_link c.place) (blocks_of s) in
+      let low = eqb c.second 0 in
+      let high = eqb c.third 0 in
+      elim (or_split (eqb c.altered slot_size && slot) (eqb c.altered link_size && link && low && high) e) [
+        | inl h ↦ inl (eqb-true c.altered slot_size (and_split (eqb c.altered slot_size) slot h).0)
+        | inr h ↦
+            let k₁ = and_split (eqb c.altered link_size && link && low) high h in
+            let k₂ = and_split (eqb c.altered link_size && link) low k₁.0 in
+            inr (eqb-true c.altered link_size (and_split (eqb c.altered link_size) link k₂.0).0)
+      ]
 
 -- the change of a trailer at t alters a slot or a next field that lies inside the length before it
 pub record Known (t : ℕ) (c : Change) : Type 0 where
@@ -64,26 +72,11 @@ pub record Known (t : ℕ) (c : Change) : Type 0 where
   pub inside : c.place + c.altered ≤ c.before
 
 pub known_is : (s : List ℕ) (t : ℕ) (c : Change) → known s t c ≡ true → Known t c
-unfolding known place_known
+unfolding known
 known_is s t c e =
-    let slot = any (eqb c.place) (slots_of s) in
-    let link = any (is_link c.place) (blocks_of s) in
-    let low = eqb c.second 0 in
-    let high = eqb c.third 0 in
     let h₁ = and_split (leb c.before t && place_known s c) (leb (c.place + c.altered) c.before) e in
     let h₂ = and_split (leb c.before t) (place_known s c) h₁.0 in
-    record {
-      shorter = leb-true _ _ h₂.0;
-      size =
-          elim (or_split (eqb c.altered slot_size && slot) (eqb c.altered link_size && link && low && high) h₂.1) [
-            | inl h ↦ inl (eqb-true c.altered slot_size (and_split (eqb c.altered slot_size) slot h).0)
-            | inr h ↦
-                let k₁ = and_split (eqb c.altered link_size && link && low) high h in
-                let k₂ = and_split (eqb c.altered link_size && link) low k₁.0 in
-                inr (eqb-true c.altered link_size (and_split (eqb c.altered link_size) link k₂.0).0)
-          ];
-      inside = leb-true _ _ h₁.1;
-    }
+    record { shorter = leb-true _ _ h₂.0; size = place_sized s c h₂.1; inside = leb-true _ _ h₁.1 }
 
 -- ---- The old bytes put back
 
@@ -121,7 +114,7 @@ change_of form t = trailer_at form t (length t - form_size form)
 -- undo of t for a desk is granted s
 pub record Undone (t : List ℕ) (desk : ℕ) (s : List ℕ) : Type 0 where
   pub form : Form
-  pub ending : carried_by t ≡ Trailer form
+  pub ending : carried_by t ≡ Some form
   pub known : Known (length t - form_size form) (change_of form t)
   pub is : restored t (change_of form t) ≡ s
   pub opens : (open_of s).number ≡ 0
@@ -131,9 +124,9 @@ pub undone : (t : List ℕ) (desk : ℕ) (s : List ℕ) → undo_of t desk ≡ g
 unfolding undo_of undo_by undo_to restored_fault sound desk_fault
 undone t desk s e = go (carried_by t) refl (opened_granted t (undo_by t desk (carried_by t)) s e).1
   where
-    go : (ending : Ending) → carried_by t ≡ ending → undo_by t desk ending ≡ granted s → Undone t desk s
-    go Nothing h g = absurd (refused_granted _ _ s g)
-    go (Trailer form) h g =
+    go : (ending : Option Form) → carried_by t ≡ ending → undo_by t desk ending ≡ granted s → Undone t desk s
+    go None h g = absurd (refused_granted _ _ s g)
+    go (Some form) h g =
         let a = length t - form_size form in
         let c = change_of form t in
         let old = restored t c in

@@ -5,6 +5,7 @@ use mathlib.Core.Logic.{◌⊎◌, inl, inr}
 use mathlib.Core.List.{List, [], ◌∷◌, ◌++◌}
 use native.Mathlib.Omega.{arith}
 use lib.ListN.{length, length-append}
+use Rattle.std.specs.Prelude.{Some}
 use Rattle.wire.specs.Numbers.{bytes, part, Bytes}
 use Rattle.wire.specs.declared.ByteOrder.TheVariants.{BigEndian}
 use Rattle.wire.proofs.Numbers.{Same, Holds, length_bytes, number_holds}
@@ -19,7 +20,6 @@ use Rattle.directory.proofs.Slots.{size_stored}
 use Rattle.journal.specs.Trailers.{carried_by, Author, form_of, desk_of, trailer_size}
 use Rattle.journal.specs.Undos.{for_desk, undo_of}
 use Rattle.journal.specs.History.{IsAuthor}
-use Rattle.journal.specs.declared.change.Ending.TheVariants.{Trailer}
 use Rattle.journal.specs.EditRules.{SlotIs}
 use Rattle.journal.specs.Edits.{slot_bytes, free_slot, data_offset, data_slot}
 use Rattle.journal.proofs.Parts.{holds_left, be_last, part_held}
@@ -131,7 +131,7 @@ pub record Writes (author : Author) (s bs t cs : List ℕ) (q : ℕ) (slot conte
   pub besides : (p : ℕ) → In p (slot_places t cs) → (p ≡ q → ⊥) → In p (slot_places s bs) ⊎ Holds t p free_slot
   pub low : Same s t 0 place
   pub high : Same s t (place + count) (length s)
-  pub ending : Bytes s → IsAuthor author → carried_by t ≡ Trailer (form_of author)
+  pub ending : Bytes s → IsAuthor author → carried_by t ≡ Some (form_of author)
   pub back : Bytes s → IsAuthor author → (open_of s).number ≡ 0 → Kept t cs → (desk : ℕ)
       → undo_of t desk ≡ for_desk (desk_of author) desk (length t - trailer_size author) s
 

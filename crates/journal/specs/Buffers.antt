@@ -1,13 +1,13 @@
 -- Calls on the first n bytes of a lent buffer, each of which names a desk: what each comes to, and what the buffer holds afterwards. Assumes
 -- nothing.
-use Rattle.std.specs.Prelude.{ℕ, List, true, false, length, take, leb}
+use Rattle.std.specs.Prelude.{ℕ, List, true, false, length, take, leb, Result}
 use Rattle.answer.specs.Refusals.{TOO_LONG}
 use Rattle.answer.specs.Lent.{Does}
+use Rattle.answer.specs.declared.Refusal.{Refusal}
 use Rattle.journal.specs.Outcomes.{Outcome, refused, outcome_answer, file_of, edited_numbers}
 use Rattle.journal.specs.Trailers.{named}
 use Rattle.journal.specs.Edits.{add_of, replace_of, remove_of}
 use Rattle.journal.specs.Undos.{undo_of}
-use Rattle.journal.specs.declared.Edited.{Edited}
 
 -- the image is the first n bytes of the buffer; n over the buffer is refused
 unfoldable pub image_in : List ℕ → ℕ → Outcome → Outcome
@@ -27,5 +27,5 @@ undo_in buffer n desk = image_in buffer n (undo_of (take n buffer) desk)
 
 -- a call that comes to an outcome answers it, and the file lies over the front of the buffer; bytes past its end stay; a refusal leaves
 -- every byte
-abbrev pub Leaves : Outcome → List ℕ → List ℕ → Edited → Type 0
+abbrev pub Leaves : Outcome → List ℕ → List ℕ → Result ℕ Refusal → Type 0
 Leaves outcome before after r = Does (outcome_answer outcome) (file_of outcome) before after (edited_numbers r)

@@ -1,9 +1,8 @@
 -- What an edit or an undo comes to, and the numbers that it answers. Assumes nothing.
-use Rattle.std.specs.Prelude.{ℕ, zero, suc, List, [], ◌∷◌, length}
+use Rattle.std.specs.Prelude.{ℕ, zero, suc, List, [], ◌∷◌, length, Result, Ok, Err}
 use Rattle.answer.specs.Answer.{Answer, grant, refuse, refusal}
+use Rattle.answer.specs.declared.Refusal.{Refusal}
 use Rattle.directory.specs.Opening.{open_of}
-use Rattle.journal.specs.declared.Edited.{Edited}
-use Rattle.journal.specs.declared.Edited.TheVariants.{Granted, Refused}
 
 -- the file that is made of the one before, or a number and a place
 pub data Outcome : Type 0 where
@@ -20,9 +19,10 @@ abbrev pub file_of : Outcome → List ℕ
 file_of (granted file) = file
 file_of (refused number place) = []
 
-abbrev pub edited_numbers : Edited → Answer
-edited_numbers (Granted size) = grant (size ∷ [])
-edited_numbers (Refused r) = refusal 1 r
+-- the same of what the code returns
+abbrev pub edited_numbers : Result ℕ Refusal → Answer
+edited_numbers (Ok size) = grant (size ∷ [])
+edited_numbers (Err r) = refusal 1 r
 
 -- a refusal with the number of the first rule broken and its place; where that is 0, what the call goes on to
 unfoldable pub passing : ℕ → ℕ → Outcome → Outcome

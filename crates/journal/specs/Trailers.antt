@@ -1,12 +1,10 @@
 -- The trailer (an undo record at the end of the file), after document 01, "Edits and the trailer", and document 02 (viii). Assumes nothing.
-use Rattle.std.specs.Prelude.{ℕ, ◌+◌, ◌-◌, List, [], ◌∷◌, ◌++◌, Bool, true, false, ◌&&◌, length, leb, eqb}
+use Rattle.std.specs.Prelude.{ℕ, ◌+◌, ◌-◌, List, [], ◌∷◌, ◌++◌, Bool, true, false, ◌&&◌, length, leb, eqb, Option, Some, None}
 use Rattle.wire.specs.Numbers.{be, bytes}
 use Rattle.wire.specs.Layouts.{Layout, end, number, read, pack}
 use Rattle.journal.specs.declared.change.Change.{Change}
 use Rattle.journal.specs.declared.change.Form.{Form}
 use Rattle.journal.specs.declared.change.Form.TheVariants.{Old, Long}
-use Rattle.journal.specs.declared.change.Ending.{Ending}
-use Rattle.journal.specs.declared.change.Ending.TheVariants.{Nothing, Trailer}
 
 -- ---- Its two forms: the old one, and the long one, which names a desk
 
@@ -66,11 +64,11 @@ trailer_bytes form c = pack (trailer form) (trailer_numbers form c) 0
 unfoldable pub carries : Form → List ℕ → Bool
 carries form s = leb (least_before + form_size form) (length s) && eqb (be 4 s (length s - 4)) (form_closing form)
 
-unfoldable pub carried_by : List ℕ → Ending
+unfoldable pub carried_by : List ℕ → Option Form
 carried_by s =
     elim (carries Long s) [
-      | true ↦ Trailer Long
-      | false ↦ elim (carries Old s) [ true ↦ Trailer Old | false ↦ Nothing ]
+      | true ↦ Some Long
+      | false ↦ elim (carries Old s) [ true ↦ Some Old | false ↦ None ]
     ]
 
 -- an old trailer's previous counts only an old one
@@ -80,9 +78,9 @@ counts_form Old Old = true
 counts_form Old Long = false
 
 -- the previous trailer, as a trailer of a form behind n bytes names it: its place, or 0
-unfoldable pub previous_at : Form → ℕ → Ending → ℕ
-previous_at form n Nothing = 0
-previous_at form n (Trailer there) = elim (counts_form form there) [ true ↦ n - form_size there | false ↦ 0 ]
+unfoldable pub previous_at : Form → ℕ → Option Form → ℕ
+previous_at form n None = 0
+previous_at form n (Some there) = elim (counts_form form there) [ true ↦ n - form_size there | false ↦ 0 ]
 
 unfoldable pub previous_of : Form → List ℕ → ℕ
 previous_of form s = previous_at form (length s) (carried_by s)

@@ -1,5 +1,5 @@
 -- What undo (document 01's take-back) makes of a whole file for a desk, after "Edits and the trailer" and document 02 (viii). Assumes nothing.
-use Rattle.std.specs.Prelude.{ℕ, ◌+◌, ◌-◌, List, Bool, ◌&&◌, ◌||◌, length, take, leb, eqb}
+use Rattle.std.specs.Prelude.{ℕ, ◌+◌, ◌-◌, List, Bool, ◌&&◌, ◌||◌, length, take, leb, eqb, Option, Some, None}
 use Rattle.answer.specs.Refusals.{NO_EDIT, BAD_TRAILER, OTHER_DESK}
 use Rattle.answer.specs.Search.{any, must}
 use Rattle.wire.specs.Numbers.{put}
@@ -11,8 +11,6 @@ use Rattle.journal.specs.Outcomes.{Outcome, granted, refused, passing, opened_to
 use Rattle.journal.specs.Trailers.{form_size, slot_size, link_size, trailer_at, carried_by, previous_of, old_bytes}
 use Rattle.journal.specs.declared.change.Change.{Change}
 use Rattle.journal.specs.declared.change.Form.{Form}
-use Rattle.journal.specs.declared.change.Ending.{Ending}
-use Rattle.journal.specs.declared.change.Ending.TheVariants.{Nothing, Trailer}
 
 -- the file cut to its length before, with the old bytes put back
 unfoldable pub restored : List ℕ → Change → List ℕ
@@ -51,9 +49,9 @@ unfoldable pub undo_to : List ℕ → ℕ → Form → ℕ → Change → Outcom
 undo_to s desk form t c =
     passing (must (known s t c) BAD_TRAILER (restored_fault form c desk (restored s c))) t (granted (restored s c))
 
-unfoldable pub undo_by : List ℕ → ℕ → Ending → Outcome
-undo_by s desk Nothing = refused NO_EDIT 0
-undo_by s desk (Trailer form) = let t = length s - form_size form in undo_to s desk form t (trailer_at form s t)
+unfoldable pub undo_by : List ℕ → ℕ → Option Form → Outcome
+undo_by s desk None = refused NO_EDIT 0
+undo_by s desk (Some form) = let t = length s - form_size form in undo_to s desk form t (trailer_at form s t)
 
 unfoldable pub undo_of : List ℕ → ℕ → Outcome
 undo_of s desk = opened_to s (undo_by s desk (carried_by s))

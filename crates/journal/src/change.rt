@@ -6,8 +6,10 @@ ghost use Rattle.directory.specs.Steps.Opens.{Opens};
 ghost use Rattle.journal.specs.Trailers as Trailers;
 ghost use Rattle.journal.specs.Trailers.{form_size, form_closing, trailer_at, trailer_bytes, carried_by, counts_form, previous_of, named, change_at, old_bytes};
 ghost use Rattle.journal.specs.declared.change.Form.TheVariants.{Long};
-ghost use Rattle.journal.specs.Undos.{known};
+ghost use Rattle.journal.specs.Undos.{place_known, known};
 ghost use Rattle.journal.specs.Steps.Restores.{desk_at};
+
+use directory::places::{has_link, has_slot};
 
 const OLD_SIZE: usize = 32;
 
@@ -26,21 +28,14 @@ pub const SLOT: usize = 12;
 pub const LINK: usize = 4;
 
 // The forms of a trailer: the old one, and the long one, which names a desk. New ones are long.
-#[derive(Clone, Copy)]
+#[derive(Clone, Copy, PartialEq, Eq)]
 pub enum Form {
     Old,
     Long,
 }
 
-// What an image ends in.
-#[derive(Clone, Copy)]
-pub enum Ending {
-    Nothing,
-    Trailer(Form),
-}
-
 // The place and the number of the bytes altered, the old bytes as three numbers, the length of the image before, the place of the
-// previous trailer or 0, and the desk that made the change.
+// previous trailer or 0, and the desk that made the change. A trailer that a file carries may have any number in each.
 #[derive(Clone, Copy)]
 pub struct Change {
     pub place: usize,
@@ -78,51 +73,36 @@ fn carries(image: &[u8], form: Form) -> bool
     ensures { result ≡ Trailers.carries form image.now }
 {
     let n = image.len();
-    if n < LEAST_BEFORE + size_of(form) {
-        return false;
-    }
-    wire::read32(image, n - 4) == closing_of(form)
+    LEAST_BEFORE + size_of(form) <= n && wire::read32(image, n - 4) == closing_of(form)
 }
 
-// What an image ends in: the trailer that it carries.
-pub(crate) fn carried_by(image: &[u8]) -> Ending
+// The form of the trailer that an image ends in, where it carries one.
+pub(crate) fn carried_by(image: &[u8]) -> Option<Form>
     ensures { result ≡ carried_by image.now }
 {
     if carries(image, Form::Long) {
-        return Ending::Trailer(Form::Long);
+        return Some(Form::Long);
     }
     if carries(image, Form::Old) {
-        return Ending::Trailer(Form::Old);
+        return Some(Form::Old);
     }
-    Ending::Nothing
+    None
 }
 
 // Whether a trailer names one before it as the previous one: an old one knows only old ones.
 fn counts_form(form: Form, before: Form) -> bool
     ensures { result ≡ counts_form form before }
 {
-    match form {
-        Form::Long => true,
-        Form::Old => match before {
-            Form::Old => true,
-            Form::Long => false,
-        },
-    }
+    form == Form::Long || before == Form::Old
 }
 
 // The previous trailer, as one behind the image has to name it: its place, or 0.
 pub(crate) fn previous_of(image: &[u8], form: Form) -> usize
     ensures { result ≡ previous_of form image.now }
 {
-    let there = carried_by(image);
-    match there {
-        Ending::Nothing => 0,
-        Ending::Trailer(before) => {
-            if !counts_form(form, before) {
-                return 0;
-            }
-            image.len() - size_of(before)
-        }
+    match carried_by(image) {
+        Some(before) if counts_form(form, before) => image.len() - size_of(before),
+        _ => 0,
     }
 }
 
@@ -131,29 +111,22 @@ pub(crate) fn change_at(image: &[u8], desk: u32, place: usize, altered: usize) -
     requires { place ≤ most_bytes }
     ensures { result ≡ change_at image.now (named desk) place altered }
 {
-    let first = wire::read32(image, place);
-    let before = image.len();
-    let previous = previous_of(image, Form::Long);
-    if altered != SLOT {
-        return Change {
-            place,
-            altered,
-            first,
-            second: 0,
-            third: 0,
-            before,
-            previous,
-            desk: desk as usize,
-        };
-    }
+    let (second, third) = if altered == SLOT {
+        (
+            wire::read32(image, place + 4),
+            wire::read32(image, place + 8),
+        )
+    } else {
+        (0, 0)
+    };
     Change {
         place,
         altered,
-        first,
-        second: wire::read32(image, place + 4),
-        third: wire::read32(image, place + 8),
-        before,
-        previous,
+        first: wire::read32(image, place),
+        second,
+        third,
+        before: image.len(),
+        previous: previous_of(image, Form::Long),
         desk: desk as usize,
     }
 }
@@ -214,34 +187,23 @@ pub(crate) fn write_back(buffer: &mut [u8], change: Change)
     }
 }
 
+// Whether a change is of a slot or a next field of the present directory.
+fn is_placed(image: &[u8], blocks: usize, change: Change) -> bool
+    requires { Opens image.now blocks }
+    ensures { result ≡ place_known image.now change }
+{
+    match change.altered {
+        SLOT => has_slot(image, blocks, change.place),
+        LINK => has_link(image, blocks, change.place) && change.second == 0 && change.third == 0,
+        _ => false,
+    }
+}
+
 // Whether a trailer at t speaks of a slot or a next field of the present directory that lies inside the length before it.
 pub(crate) fn is_known(image: &[u8], blocks: usize, t: usize, change: Change) -> bool
     requires { Opens image.now blocks × (change.place < 4294967296) }
     ensures { result ≡ known image.now t change }
 {
-    let place = change.place;
-    let altered = change.altered;
     let before = change.before;
-    if t < before {
-        return false;
-    }
-    if altered == SLOT {
-        if !directory::places::has_slot(image, blocks, place) {
-            return false;
-        }
-        return place + SLOT <= before;
-    }
-    if altered != LINK {
-        return false;
-    }
-    if !directory::places::has_link(image, blocks, place) {
-        return false;
-    }
-    if change.second != 0 {
-        return false;
-    }
-    if change.third != 0 {
-        return false;
-    }
-    place + LINK <= before
+    before <= t && is_placed(image, blocks, change) && change.place + change.altered <= before
 }

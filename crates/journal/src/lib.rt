@@ -7,6 +7,7 @@ mod write;
 
 ghost use Rattle.std.specs.Prelude.{◌≡◌, [], ◌∷◌, ◌+◌, ◌≤◌, length, take};
 ghost use Rattle.answer.specs.Answer.{grant};
+ghost use Rattle.answer.specs.Refusals.{fault_of};
 ghost use Rattle.directory.specs.Limits.{most_bytes};
 ghost use Rattle.directory.specs.Opening.{open_of};
 ghost use Rattle.journal.specs.Trailers.{slot_size};
@@ -17,33 +18,21 @@ ghost use Rattle.journal.specs.Steps.Changes.{OpensIn, Targets, slot_in, block_i
 ghost use Rattle.journal.specs.Steps.Restores.{Restorable};
 
 use answer::Refusal;
-use answer::refusals::{
-    ABSENT, BAD_TAG, BAD_TRAILER, DIR_BIG, NO_EDIT, NO_ROOM, OTHER_DESK, PRESENT, TOO_LONG,
-};
-use change::{Change, Ending, Form, LINK, LONG_SIZE, SLOT};
+use answer::refusals::Rule;
+use change::{Change, Form, LINK, LONG_SIZE, SLOT};
+use directory::Counts;
 use directory::format::{
     EXTENDED_FIRST, EXTENDED_LAST, FREE, LONE, MOST_BLOCKS, MOST_BYTES, MOST_SLOTS,
 };
 use directory::places::Room;
-use directory::{Counts, Found, Opened};
 use write::{BLOCK_SIZE, BLOCK_SLOTS};
 
-// The length of the file that a granted call leaves.
-#[derive(Clone, Copy)]
-pub enum Edited {
-    Granted(usize),
-    Refused(Refusal),
-}
-
 // Opens the image that is the first n bytes of a buffer.
-fn open_in(buffer: &[u8], n: usize) -> Opened
+fn open_in(buffer: &[u8], n: usize) -> Result<Counts, Refusal>
     ensures { OpensIn buffer.now n result }
 {
     if buffer.len() < n {
-        return Opened::Refused(Refusal {
-            number: TOO_LONG,
-            place: 0,
-        });
+        return Err(Rule::TooLong.at(0));
     }
     directory::open(&buffer[..n])
 }
@@ -52,167 +41,127 @@ fn open_in(buffer: &[u8], n: usize) -> Opened
 fn bad_tag(tag: usize) -> bool
     ensures { result ≡ bad_tag tag }
 {
-    if tag == 0 {
-        return true;
-    }
-    if tag == FREE {
-        return true;
-    }
-    if tag == LONE {
-        return true;
-    }
-    if tag < EXTENDED_FIRST {
-        return false;
-    }
-    tag <= EXTENDED_LAST
+    matches!(tag, 0 | FREE | LONE | EXTENDED_FIRST..=EXTENDED_LAST)
 }
 
-// The number of the rule that a new file of so many bytes breaks in a buffer, 0 where it breaks none.
-fn fit_fault(size: usize, capacity: usize) -> usize
-    ensures { result ≡ fit_fault capacity size }
+// The rules of a new file of so many bytes in a buffer: it is not too long, and has room.
+fn check_fit(size: usize, capacity: usize) -> Result<(), Rule>
+    ensures { fault_of result ≡ fit_fault capacity size }
 {
     if MOST_BYTES < size {
-        return TOO_LONG;
+        return Err(Rule::TooLong);
     }
     if capacity < size {
-        return NO_ROOM;
+        return Err(Rule::NoRoom);
     }
-    0
+    Ok(())
 }
 
-// Points the slot at p at data appended to the image, unless the new file is too long or has no room.
-fn put_slot(
-    buffer: &mut [u8],
-    n: usize,
-    p: usize,
+// What an edit puts into a slot, and for whom: the tag, the reference and the data.
+#[derive(Clone, Copy)]
+struct Edit<'a> {
     desk: u32,
     tag: u16,
     reference: u16,
-    content: &[u8],
-) -> Edited
+    content: &'a [u8],
+}
+
+// Points the slot at p at data appended to the image, unless the new file is too long or has no room.
+fn put_slot(buffer: &mut [u8], n: usize, p: usize, edit: Edit<'_>) -> Result<usize, Refusal>
     requires { (n ≤ most_bytes) × (n ≤ length buffer.old) × (p + slot_size ≤ n) }
-    ensures { Leaves (slot_in buffer.old n p desk tag reference content.now)
+    ensures { let e = edit.entry in
+        Leaves (slot_in buffer.old n p e.desk e.tag e.reference e.content.now)
         buffer.old buffer.new result }
 {
-    let end = n + content.len();
-    let number = fit_fault(end + LONG_SIZE, buffer.len());
-    if number != 0 {
-        return Edited::Refused(Refusal { number, place: 0 });
+    let end = n + edit.content.len();
+    if let Err(rule) = check_fit(end + LONG_SIZE, buffer.len()) {
+        return Err(rule.at(0));
     }
-    let change = change::change_at(&buffer[..n], desk, p, SLOT);
-    wire::write_bytes(buffer, n, content);
+    let change = change::change_at(&buffer[..n], edit.desk, p, SLOT);
+    wire::write_bytes(buffer, n, edit.content);
     change::write_trailer(buffer, end, change);
     write::write_slot(
         buffer,
         p,
-        tag as usize,
-        reference as usize,
-        write::offset_of(content, n),
-        content.len(),
+        edit.tag as usize,
+        edit.reference as usize,
+        write::offset_of(edit.content, n),
+        edit.content.len(),
     );
-    Edited::Granted(end + LONG_SIZE)
+    Ok(end + LONG_SIZE)
 }
 
 // Appends a block, whose first slot is pointed at data after it, and links it from the block at b.
-fn put_block(
-    buffer: &mut [u8],
-    n: usize,
-    b: usize,
-    desk: u32,
-    tag: u16,
-    reference: u16,
-    content: &[u8],
-) -> Edited
+fn put_block(buffer: &mut [u8], n: usize, b: usize, edit: Edit<'_>) -> Result<usize, Refusal>
     requires { (n ≤ most_bytes) × (n ≤ length buffer.old) × (b + 6 ≤ n) }
-    ensures { Leaves (block_in buffer.old n b desk tag reference content.now)
+    ensures { let e = edit.entry in
+        Leaves (block_in buffer.old n b e.desk e.tag e.reference e.content.now)
         buffer.old buffer.new result }
 {
     let start = n + BLOCK_SIZE;
-    let end = start + content.len();
-    let number = fit_fault(end + LONG_SIZE, buffer.len());
-    if number != 0 {
-        return Edited::Refused(Refusal { number, place: 0 });
+    let end = start + edit.content.len();
+    if let Err(rule) = check_fit(end + LONG_SIZE, buffer.len()) {
+        return Err(rule.at(0));
     }
-    let change = change::change_at(&buffer[..n], desk, b + 2, LINK);
+    let change = change::change_at(&buffer[..n], edit.desk, b + 2, LINK);
     write::write_block(
         buffer,
         n,
-        tag as usize,
-        reference as usize,
-        write::offset_of(content, start),
-        content.len(),
+        edit.tag as usize,
+        edit.reference as usize,
+        write::offset_of(edit.content, start),
+        edit.content.len(),
     );
-    wire::write_bytes(buffer, start, content);
+    wire::write_bytes(buffer, start, edit.content);
     change::write_trailer(buffer, end, change);
     wire::write32(buffer, b + 2, n);
-    Edited::Granted(end + LONG_SIZE)
+    Ok(end + LONG_SIZE)
 }
 
-// What an edit of a tag and a reference meets in the image: a refusal, the slot, or no such slot.
+// What an edit of a tag and a reference meets in the image: the slot, or no such slot.
 #[derive(Clone, Copy)]
 enum Target {
-    Refused(Refusal),
     Present(usize),
     Absent(Counts),
 }
 
-fn meet(buffer: &[u8], n: usize, tag: u16, reference: u16) -> Target
+fn meet(buffer: &[u8], n: usize, tag: u16, reference: u16) -> Result<Target, Refusal>
     ensures { Targets buffer.now n tag reference result }
 {
     let opened = open_in(buffer, n);
-    let Opened::Accepted(counts) = opened else {
-        return Target::Refused(directory::refusal_of(opened));
+    let Ok(counts) = opened else {
+        return Err(opened.unwrap_err());
     };
     if bad_tag(tag as usize) {
-        return Target::Refused(Refusal {
-            number: BAD_TAG,
-            place: 0,
-        });
+        return Err(Rule::BadTag.at(0));
     }
-    let found = directory::find_slot(&buffer[..n], counts.blocks, tag, reference);
-    match found {
-        Found::At(p) => Target::Present(p),
-        Found::Missing(_) => Target::Absent(counts),
+    match directory::find_slot(&buffer[..n], counts.blocks, tag, reference) {
+        Ok(p) => Ok(Target::Present(p)),
+        Err(_) => Ok(Target::Absent(counts)),
     }
 }
 
 // Adds an element that is absent, in the first free slot or in a new block.
-fn put_new(
-    buffer: &mut [u8],
-    n: usize,
-    counts: Counts,
-    desk: u32,
-    tag: u16,
-    reference: u16,
-    content: &[u8],
-) -> Edited
+fn put_new(buffer: &mut [u8], n: usize, counts: Counts, edit: Edit<'_>) -> Result<usize, Refusal>
     requires { (n ≤ length buffer.old)
         × (open_of (take n buffer.old) ≡ grant (counts.blocks ∷ counts.slots ∷ counts.live ∷ [])) }
-    ensures { Leaves (new_in buffer.old n desk tag reference content.now)
+    ensures { let e = edit.entry in
+        Leaves (new_in buffer.old n e.desk e.tag e.reference e.content.now)
         buffer.old buffer.new result }
 {
     let room = directory::places::find_room(&buffer[..n], counts.blocks);
     match room {
-        Room::Slot(p) => put_slot(buffer, n, p, desk, tag, reference, content),
+        Room::Slot(p) => put_slot(buffer, n, p, edit),
         Room::Block(b) => {
-            if MOST_BLOCKS <= counts.blocks {
-                return Edited::Refused(Refusal {
-                    number: DIR_BIG,
-                    place: 0,
-                });
+            if MOST_BLOCKS <= counts.blocks || MOST_SLOTS < counts.slots + BLOCK_SLOTS {
+                return Err(Rule::DirBig.at(0));
             }
-            if MOST_SLOTS < counts.slots + BLOCK_SLOTS {
-                return Edited::Refused(Refusal {
-                    number: DIR_BIG,
-                    place: 0,
-                });
-            }
-            put_block(buffer, n, b, desk, tag, reference, content)
+            put_block(buffer, n, b, edit)
         }
     }
 }
 
-// Adds an element.
+// Adds an element. Answers the length of the file that it leaves, as the other edits do.
 pub fn add(
     buffer: &mut [u8],
     n: usize,
@@ -220,18 +169,19 @@ pub fn add(
     tag: u16,
     reference: u16,
     content: &[u8],
-) -> Edited
+) -> Result<usize, Refusal>
     ensures { Leaves (add_in buffer.old n desk tag reference content.now)
         buffer.old buffer.new result }
 {
-    let met = meet(buffer, n, tag, reference);
-    match met {
-        Target::Refused(r) => Edited::Refused(r),
-        Target::Present(_) => Edited::Refused(Refusal {
-            number: PRESENT,
-            place: 0,
-        }),
-        Target::Absent(counts) => put_new(buffer, n, counts, desk, tag, reference, content),
+    let edit = Edit {
+        desk,
+        tag,
+        reference,
+        content,
+    };
+    match meet(buffer, n, tag, reference)? {
+        Target::Present(_) => Err(Rule::Present.at(0)),
+        Target::Absent(counts) => put_new(buffer, n, counts, edit),
     }
 }
 
@@ -243,34 +193,42 @@ pub fn replace(
     tag: u16,
     reference: u16,
     content: &[u8],
-) -> Edited
+) -> Result<usize, Refusal>
     ensures { Leaves (replace_in buffer.old n desk tag reference content.now)
         buffer.old buffer.new result }
 {
-    let met = meet(buffer, n, tag, reference);
-    match met {
-        Target::Refused(r) => Edited::Refused(r),
-        Target::Present(p) => put_slot(buffer, n, p, desk, tag, reference, content),
-        Target::Absent(_) => Edited::Refused(Refusal {
-            number: ABSENT,
-            place: 0,
-        }),
+    let edit = Edit {
+        desk,
+        tag,
+        reference,
+        content,
+    };
+    match meet(buffer, n, tag, reference)? {
+        Target::Present(p) => put_slot(buffer, n, p, edit),
+        Target::Absent(_) => Err(Rule::Absent.at(0)),
     }
 }
 
 // Frees an element's slot.
-pub fn remove(buffer: &mut [u8], n: usize, desk: u32, tag: u16, reference: u16) -> Edited
+pub fn remove(
+    buffer: &mut [u8],
+    n: usize,
+    desk: u32,
+    tag: u16,
+    reference: u16,
+) -> Result<usize, Refusal>
     ensures { Leaves (remove_in buffer.old n desk tag reference)
         buffer.old buffer.new result }
 {
-    let met = meet(buffer, n, tag, reference);
-    match met {
-        Target::Refused(r) => Edited::Refused(r),
-        Target::Present(p) => put_slot(buffer, n, p, desk, 1, 0, b""),
-        Target::Absent(_) => Edited::Refused(Refusal {
-            number: ABSENT,
-            place: 0,
-        }),
+    let freed = Edit {
+        desk,
+        tag: FREE as u16,
+        reference: 0,
+        content: b"",
+    };
+    match meet(buffer, n, tag, reference)? {
+        Target::Present(p) => put_slot(buffer, n, p, freed),
+        Target::Absent(_) => Err(Rule::Absent.at(0)),
     }
 }
 
@@ -278,27 +236,20 @@ pub fn remove(buffer: &mut [u8], n: usize, desk: u32, tag: u16, reference: u16) 
 fn is_sound(image: &[u8], form: Form, previous: usize) -> bool
     ensures { result ≡ sound form previous image.now }
 {
-    if previous != change::previous_of(image, form) {
-        return false;
-    }
-    let opened = directory::open(image);
-    match opened {
-        Opened::Accepted(_) => true,
-        Opened::Refused(_) => false,
-    }
+    previous == change::previous_of(image, form) && directory::open(image).is_ok()
 }
 
-// The number of the rule that a trailer breaks by the image that it restores, or that a desk breaks which asks for it; 0 where none is broken.
-fn restored_fault(image: &[u8], form: Form, change: Change, desk: u32) -> usize
-    ensures { result ≡ restored_fault form change desk image.now }
+// The rules of a trailer by the image that it restores, and of the desk that asks for it.
+fn check_restored(image: &[u8], form: Form, change: Change, desk: u32) -> Result<(), Rule>
+    ensures { fault_of result ≡ restored_fault form change desk image.now }
 {
     if !is_sound(image, form, change.previous) {
-        return BAD_TRAILER;
+        return Err(Rule::BadTrailer);
     }
     if change.desk != desk as usize {
-        return OTHER_DESK;
+        return Err(Rule::OtherDesk);
     }
-    0
+    Ok(())
 }
 
 // Puts the old bytes back, and the present ones again where the restored image, or the desk, breaks a rule.
@@ -309,48 +260,39 @@ fn restore(
     desk: u32,
     present: Change,
     change: Change,
-) -> Edited
+) -> Result<usize, Refusal>
     requires { Restorable buffer.old n form present change }
     ensures { Leaves (undo_of (take n buffer.old) desk)
         buffer.old buffer.new result }
 {
     let before = change.before;
     change::write_back(buffer, change);
-    let number = restored_fault(&buffer[..before], form, change, desk);
-    if number == 0 {
-        return Edited::Granted(before);
+    match check_restored(&buffer[..before], form, change, desk) {
+        Ok(()) => Ok(before),
+        Err(rule) => {
+            change::write_back(buffer, present);
+            Err(rule.at(n - change::size_of(form)))
+        }
     }
-    change::write_back(buffer, present);
-    Edited::Refused(Refusal {
-        number,
-        place: n - change::size_of(form),
-    })
 }
 
 // Takes back the newest edit that the file carries, for the desk that made it.
-pub fn undo(buffer: &mut [u8], n: usize, desk: u32) -> Edited
+pub fn undo(buffer: &mut [u8], n: usize, desk: u32) -> Result<usize, Refusal>
     ensures { Leaves (undo_in buffer.old n desk)
         buffer.old buffer.new result }
 {
     let opened = open_in(buffer, n);
-    let Opened::Accepted(counts) = opened else {
-        return Edited::Refused(directory::refusal_of(opened));
+    let Ok(counts) = opened else {
+        return Err(opened.unwrap_err());
     };
     let image = &buffer[..n];
-    let ending = change::carried_by(image);
-    let Ending::Trailer(form) = ending else {
-        return Edited::Refused(Refusal {
-            number: NO_EDIT,
-            place: 0,
-        });
+    let Some(form) = change::carried_by(image) else {
+        return Err(Rule::NoEdit.at(0));
     };
     let t = n - change::size_of(form);
     let change = change::read_trailer(image, t, form);
     if !change::is_known(image, counts.blocks, t, change) {
-        return Edited::Refused(Refusal {
-            number: BAD_TRAILER,
-            place: t,
-        });
+        return Err(Rule::BadTrailer.at(t));
     }
     let present = change::change_at(image, desk, change.place, change.altered);
     restore(buffer, n, form, desk, present, change)

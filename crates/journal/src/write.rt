@@ -16,10 +16,7 @@ pub const BLOCK_SIZE: usize = 198;
 pub(crate) fn offset_of(content: &[u8], at: usize) -> usize
     ensures { result ≡ data_offset content.now at }
 {
-    if content.len() == 0 {
-        return 0;
-    }
-    at
+    if content.is_empty() { 0 } else { at }
 }
 
 pub(crate) fn write_slot(
@@ -43,10 +40,8 @@ fn write_free_slots(buffer: &mut [u8], at: usize, count: usize)
     requires { (at ≤ 4294967280) × (count ≤ 16) }
     ensures { buffer.new ≡ put buffer.old at (free_slots count) }
 {
-    let mut i = 0;
-    while i < count {
+    for i in 0..count {
         write_slot(buffer, at + SLOT * i, FREE, 0, 0, 0);
-        i += 1;
     }
 }
 

@@ -52,9 +52,6 @@ zero_bit k = let low : 0 / 2 ^ k ≡ 0 = div-eq_of_lt (pow_pos k) in rw low refl
 
 -- ---- Marks
 
-pub one_shifted : (k : ℕ) → k < 64 → (1 * 2 ^ k) % 18446744073709551616 ≡ 2 ^ k
-one_shifted k h = let low : 2 ^ k < 18446744073709551616 = pow-lt h in omega arith
-
 pub mark_length : (marks : List ℕ) (n : ℕ) → length (with_mark marks n) ≡ length marks
 unfolding with_mark
 mark_length marks n = length-set marks _ _

@@ -8,10 +8,10 @@ ghost use Rattle.marks.specs.Marks.{marked, with_mark};
 pub fn is_set(marks: &[u64], n: usize) -> bool
     ensures { result ≡ marked marks.now n }
 {
-    if marks.len() <= n / 64 {
-        return false;
+    match marks.get(n / 64) {
+        Some(&word) => (word >> (n % 64)) % 2 == 1,
+        None => false,
     }
-    (marks[n / 64] >> (n % 64)) % 2 == 1
 }
 
 // Sets mark n.
@@ -19,7 +19,6 @@ pub fn set(marks: &mut [u64], n: usize)
     ensures { marks.new ≡ with_mark marks.old n }
 {
     if n / 64 < marks.len() {
-        let word = marks[n / 64];
-        marks[n / 64] = word | (1u64 << (n % 64));
+        marks[n / 64] |= 1 << (n % 64);
     }
 }

@@ -7,19 +7,20 @@ use mathlib.Core.Bool.{◌&&◌, and-false}
 use lib.ListN.{length, get_or, take, drop, length-append}
 use lib.Dec.{leb}
 use lib.Seq.{sets, take-append_seam, drop-append_seam, take-length, drop-length}
-use borrow.Author.Tests.{eq-eqb, ne_eqb, eqb-true, le-leb, lt-leb, leb-true}
+use borrow.Author.Tests.{eq-eqb, eqb-true, le-leb, lt-leb, leb-true}
 use Rattle.wire.specs.Numbers.{be, bytes, put, part, Bytes}
 use Rattle.wire.specs.declared.ByteOrder.TheVariants.{BigEndian}
 use Rattle.wire.proofs.Numbers.{number_small, length_bytes}
-use Rattle.answer.specs.Answer.{Answer, grant, refuse, refusal, in_room}
+use Rattle.answer.specs.Answer.{Answer, grant, refusal, in_room}
 use Rattle.answer.specs.declared.Refusal.{Refusal}
 use Rattle.answer.proofs.Tests.{and_both}
-use Rattle.answer.proofs.Search.{must_holds, must_fails, passed, pass}
+use Rattle.answer.proofs.Search.{passed, pass}
 use Rattle.answer.proofs.Lent.{refuses}
 use Rattle.answer.specs.Search.{Hit}
-use Rattle.storage.specs.Elements.{located_at}
-use Rattle.storage.specs.declared.element.Located.{Located}
-use Rattle.storage.specs.declared.element.Located.TheVariants.{Plain}
+use Rattle.storage.specs.Elements.{Located, located_at}
+use Rattle.std.specs.Prelude.{Ok}
+use Rattle.answer.specs.declared.refusals.Rule.TheVariants as rule
+use Rattle.storage.specs.declared.element.Part.{Part}
 use Rattle.wire.specs.Layouts.{read, extent, numbers, pack, numbers_at, bytes_each, Small, Fits}
 use Rattle.records.specs.Readings.{record_bytes}
 use Rattle.records.specs.Arrays.{array, array_fault, array_sizes, array_pairs, array_at, ReadsArray, array_bytes, array_pack_fault}
@@ -35,15 +36,7 @@ module _ (e : List ℕ) where
   unfolding extent
   extent_array = let h : 2 + 4 * be 2 e 0 + 2 * (2 * (be 2 e 0 + 1)) ≡ 6 + 8 * be 2 e 0 = omega arith in h
 
-  pub other_bytes : (length e ≡ 6 + 8 * be 2 e 0 → ⊥) → array_fault e ≡ 15
-  unfolding array_fault
-  other_bytes z = must_fails _ 15 _ (ne_eqb (length e) (extent array e 0) (λ q. z (q ∙ extent_array)))
-
   module _ (whole : length e ≡ 6 + 8 * be 2 e 0) where
-    pub no_rank : be 2 e 0 ≡ 0 → array_fault e ≡ 15
-    unfolding array_fault read
-    no_rank z = must_holds _ 15 _ (eq-eqb (length e) (extent array e 0) (whole ∙ sym extent_array)) ∙ must_fails _ 15 0 (lt-leb 1 (be 2 e 0) (omega arith))
-
     pub whole_bytes : 1 ≤ be 2 e 0 → array_fault e ≡ 0
     unfolding array_fault read
     whole_bytes h = pass _ 15 _ (eq-eqb (length e) (extent array e 0) (whole ∙ sym extent_array)) (pass _ 15 0 (le-leb 1 (be 2 e 0) h) refl)
@@ -115,24 +108,24 @@ LeavesAt s found sizes pairs numbers sizes_after pairs_after =
     ReadsArray (array_at s found (length sizes) (length pairs)) (record_bytes s found) sizes sizes_after pairs pairs_after numbers
 
 module _ (s : List ℕ) (found : Hit) (sizes pairs : List ℕ) where
-  pub leaves_refused : (r : Refusal) → array_at s found (length sizes) (length pairs) ≡ refusal 1 r → (r.number ≡ 0 → ⊥)
+  pub leaves_refused : (r : Refusal) → array_at s found (length sizes) (length pairs) ≡ refusal 1 r
       → LeavesAt s found sizes pairs (refusal 1 r) sizes pairs
-  leaves_refused r e z = (refuses _ _ sizes 1 r (e ∙ refusal_is 1 r z) z, refuses _ _ pairs 1 r (e ∙ refusal_is 1 r z) z)
+  leaves_refused r e = (refuses _ _ sizes 1 r (e ∙ refusal_is 1 r), refuses _ _ pairs 1 r (e ∙ refusal_is 1 r))
 
   -- the array of the element's bytes e, which break no rule
-  module _ (l : Located) (is : l ≡ located_at s found) (p o n : ℕ) (plain : l ≡ Plain p o n) (e : List ℕ) (of : e ≡ part s o n)
+  module _ (l : Located) (is : l ≡ located_at s found) (x : Part) (plain : l ≡ Ok x) (e : List ℕ) (of : e ≡ part s x.offset x.length)
       (sound : array_fault e ≡ 0) (a : Array) (read_is : a ≡ read array e 0) where
     array_judged : array_at s found (length sizes) (length pairs) ≡ in_room 1 (leb a.rank (length sizes) && leb (2 * (a.rank + 1)) (length pairs)) (grant (a.rank ∷ []))
     unfolding array_at
     array_judged =
-        reads_passed 1 s found array_fault _ l is p o n plain e of sound
+        reads_passed 1 s found array_fault _ l is x plain e of sound
         ∙ ap (λ b. in_room 1 (leb b.rank (length sizes) && leb (2 * (b.rank + 1)) (length pairs)) (grant (b.rank ∷ []))) (sym read_is)
 
-    pub leaves_sizes : length sizes < a.rank → LeavesAt s found sizes pairs (refuse 1 14 0) sizes pairs
-    leaves_sizes h = leaves_refused (record { number = 14; place = 0 }) (array_judged ∙ in_room_short 1 _ _ (rw (lt-leb _ _ h))) (λ z. omega arith)
+    pub leaves_sizes : length sizes < a.rank → LeavesAt s found sizes pairs (refusal 1 (record { rule = rule.Small; place = 0 })) sizes pairs
+    leaves_sizes h = leaves_refused (record { rule = rule.Small; place = 0 }) (array_judged ∙ in_room_short 1 _ _ (rw (lt-leb _ _ h)))
 
-    pub leaves_pairs : length pairs < 2 * (a.rank + 1) → LeavesAt s found sizes pairs (refuse 1 14 0) sizes pairs
-    leaves_pairs h = leaves_refused (record { number = 14; place = 0 }) (array_judged ∙ in_room_short 1 _ _ (rw (lt-leb _ _ h) (and-false (leb a.rank (length sizes))))) (λ z. omega arith)
+    pub leaves_pairs : length pairs < 2 * (a.rank + 1) → LeavesAt s found sizes pairs (refusal 1 (record { rule = rule.Small; place = 0 })) sizes pairs
+    leaves_pairs h = leaves_refused (record { rule = rule.Small; place = 0 }) (array_judged ∙ in_room_short 1 _ _ (rw (lt-leb _ _ h) (and-false (leb a.rank (length sizes)))))
 
     pub leaves_granted : a.rank ≤ length sizes → 2 * (a.rank + 1) ≤ length pairs → (sizes_after pairs_after : List ℕ)
         → sizes_after ≡ sets sizes 0 (numbers_at 4 a.rank e a.sizes)
@@ -141,7 +134,7 @@ module _ (s : List ℕ) (found : Hit) (sizes pairs : List ℕ) where
     unfolding array_sizes array_pairs
     leaves_granted sizes_fit pairs_fit sizes_after pairs_after q r =
         let granted = array_judged ∙ in_room_enough 1 _ _ (and_both _ _ (le-leb _ _ sizes_fit) (le-leb _ _ pairs_fit)) in
-        let v : record_bytes s found ≡ e = reads_bytes s found l is p o n plain ∙ sym of in (
+        let v : record_bytes s found ≡ e = reads_bytes s found l is x plain ∙ sym of in (
           rw v (reads_list _ _ sizes _ granted (rw (length_numbers_at, ← read_is) sizes_fit) sizes_after (rw read_is at q)),
           rw v (reads_list _ _ pairs _ granted (rw (length_numbers_at, ← read_is) pairs_fit) pairs_after (rw read_is at r)),
         )
@@ -149,24 +142,9 @@ module _ (s : List ℕ) (found : Hit) (sizes pairs : List ℕ) where
 -- ---- Packing
 
 module _ (rank pairs : ℕ) where
-  pub pack_no_rank : rank ≡ 0 → array_pack_fault rank pairs ≡ 15
+  pub pack_passes : 1 ≤ rank → rank ≤ 65535 → pairs ≡ 2 * (rank + 1) → array_pack_fault rank pairs ≡ 0
   unfolding array_pack_fault
-  pack_no_rank z = must_fails _ 15 _ (lt-leb 1 rank (omega arith))
-
-  module _ (some : 1 ≤ rank) where
-    pub pack_large : 65535 < rank → array_pack_fault rank pairs ≡ 15
-    unfolding array_pack_fault
-    pack_large h = must_holds _ 15 _ (le-leb 1 rank some) ∙ must_fails _ 15 _ (lt-leb rank 65535 h)
-
-    module _ (few : rank ≤ 65535) where
-      pub pack_other_pairs : (pairs ≡ 2 * (rank + 1) → ⊥) → array_pack_fault rank pairs ≡ 15
-      unfolding array_pack_fault
-      pack_other_pairs z =
-          must_holds _ 15 _ (le-leb 1 rank some) ∙ must_holds _ 15 _ (le-leb rank 65535 few) ∙ must_fails _ 15 0 (ne_eqb pairs (2 * (rank + 1)) z)
-
-      pub pack_passes : pairs ≡ 2 * (rank + 1) → array_pack_fault rank pairs ≡ 0
-      unfolding array_pack_fault
-      pack_passes h = pass _ 15 _ (le-leb 1 rank some) (pass _ 15 _ (le-leb rank 65535 few) (pass _ 15 0 (eq-eqb pairs (2 * (rank + 1)) h) refl))
+  pack_passes some few h = pass _ 15 _ (le-leb 1 rank some) (pass _ 15 _ (le-leb rank 65535 few) (pass _ 15 0 (eq-eqb pairs (2 * (rank + 1)) h) refl))
 
   pub pack_sound : array_pack_fault rank pairs ≡ 0 → (1 ≤ rank) × (rank ≤ 65535) × (pairs ≡ 2 * (rank + 1))
   unfolding array_pack_fault

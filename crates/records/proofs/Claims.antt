@@ -17,13 +17,13 @@ use Rattle.directory.specs.Opening.{open_of}
 use Rattle.directory.specs.Lookup.{find}
 use Rattle.answer.proofs.Tests.{and_both}
 use Rattle.directory.specs.Before.{OpenedBefore}
-use Rattle.storage.specs.Elements.{extended_at, plain_only, on_plain}
+use Rattle.storage.specs.Elements.{extended_at, plain_only}
 use Rattle.storage.specs.Before.{element_before}
 use Rattle.storage.proofs.UnstoredClaims.{element_as_before}
 use Rattle.storage.proofs.Elements.{content_stored}
 use Rattle.records.specs.Limits.{number_type_tag, array_tag}
 use Rattle.wire.specs.Layouts.{read, extent, numbers, pack, given, Small, Fits}
-use Rattle.records.specs.Readings.{sound_in, record_at, record_bytes}
+use Rattle.records.specs.Readings.{on_sound, sound_in, record_at, record_bytes}
 use Rattle.records.specs.Packings.{PacksBack}
 use Rattle.records.specs.NumberTypes.{number_type, number_type_values, number_type_fault, number_type_at, number_type_of, number_type_bytes}
 use Rattle.records.specs.Dimensions.{dimension, dimension_values, dimension_fault, dimension_at, dimension_of, dimension_bytes, dimension_pack_fault}
@@ -45,10 +45,10 @@ use Rattle.records.proofs.Types.{row_none, base_low, base_added, base_is, same_w
 -- a record is read from what the pair named, by the definitions from before: a record of any kind, whatever its rules and its values are
 pub record_as_before : (k : ℕ) (s bs : List ℕ) → OpenedBefore s bs → (tag ref : ℕ) (fault : List ℕ → ℕ) (answer : ℕ → List ℕ → Answer)
     → record_at k s (find s tag ref) fault answer
-    ≡ on_plain k (λ p offset size. answer offset (part s offset size)) (sound_in fault s (plain_only (element_before s (find s tag ref))))
+    ≡ on_sound k (λ p offset size. answer offset (part s offset size)) (sound_in fault s (plain_only (element_before s (find s tag ref))))
 unfolding record_at
 record_as_before k s bs before tag ref fault answer =
-    ap (λ x. on_plain k (λ p offset size. answer offset (part s offset size)) (sound_in fault s (plain_only x))) (element_as_before s bs before tag ref)
+    ap (λ x. on_sound k (λ p offset size. answer offset (part s offset size)) (sound_in fault s (plain_only x))) (element_as_before s bs before tag ref)
 
 -- ---- Number types
 

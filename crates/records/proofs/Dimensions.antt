@@ -1,25 +1,17 @@
 -- Dimensions: the fault by the length and the interlace, and the bytes as they are written, field by field. Assumes nothing.
 use Prim.Native.Nat.{ℕ, ◌<◌, ◌≤◌}
-use mathlib.Core.Path.{◌≡◌, refl, sym, ◌∙◌}
+use mathlib.Core.Path.{◌≡◌, refl, sym}
 use mathlib.Core.List.{List}
 use lib.ListN.{length}
-use borrow.Author.Tests.{eq-eqb, ne_eqb, eqb-true, le-leb, lt-leb, leb-true}
+use borrow.Author.Tests.{eq-eqb, eqb-true, le-leb, lt-leb, leb-true}
 use Rattle.wire.specs.Numbers.{be, bytes, put, bytes_in}
-use Rattle.answer.proofs.Search.{must_holds, must_fails, passed, pass}
+use Rattle.answer.proofs.Search.{must_fails, passed, pass}
 use Rattle.wire.specs.Layouts.{read, extent, pack}
 use Rattle.records.specs.Dimensions.{dimension_fault, dimension_bytes, dimension_pack_fault}
 use Rattle.records.specs.declared.dimension.Dimension.{Dimension}
 use Rattle.wire.proofs.Layouts.{put_field}
 
 module _ (e : List ℕ) where
-  pub other_bytes : (length e ≡ 20 → ⊥) → dimension_fault e ≡ 15
-  unfolding dimension_fault extent
-  other_bytes z = must_fails _ 15 _ (ne_eqb (length e) 20 z)
-
-  pub other_interlace : length e ≡ 20 → 2 < be 2 e 14 → dimension_fault e ≡ 15
-  unfolding dimension_fault extent read
-  other_interlace h z = must_holds _ 15 _ (eq-eqb (length e) 20 h) ∙ must_fails _ 15 0 (lt-leb (be 2 e 14) 2 z)
-
   pub whole_bytes : length e ≡ 20 → be 2 e 14 ≤ 2 → dimension_fault e ≡ 0
   unfolding dimension_fault extent read
   whole_bytes h l = pass _ 15 _ (eq-eqb (length e) 20 h) (pass _ 15 0 (le-leb (be 2 e 14) 2 l) refl)

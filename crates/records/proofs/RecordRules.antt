@@ -13,7 +13,7 @@ use Rattle.answer.specs.Rules.{Rules, done, rule, AllHold, FirstBroken}
 use Rattle.answer.specs.declared.Refusal.{Refusal}
 use Rattle.answer.proofs.Tests.{same?, by_test, not_both}
 use Rattle.answer.proofs.Rules.{Goes, goes_done, goes_rule, exactly, Below, broken_below}
-use Rattle.answer.proofs.Answer.{unless_passes, unless_stops, refusal_is}
+use Rattle.answer.proofs.Answer.{unless_passes, unless_stops, refusal_is, number_positive}
 use Rattle.directory.specs.Slots.{tag_at}
 use Rattle.directory.specs.Opening.{open_of, opened}
 use Rattle.directory.specs.Lookup.{find}
@@ -23,20 +23,21 @@ use Rattle.directory.proofs.Slots.{unstored_is}
 use Rattle.directory.proofs.Faults.{open_below}
 use Rattle.directory.proofs.Named.{found_named, named_found}
 use Rattle.directory.proofs.Opens.{opened_goes, opened_stops}
-use Rattle.storage.specs.Elements.{element_at, plain_only, located_at, refusal_in}
-use Rattle.storage.specs.declared.element.Located.TheVariants as located
-use Rattle.storage.proofs.Elements.{plain_tag, unstored, plain, extended, kind_at, located_positive}
+use Rattle.std.specs.Prelude.{Ok, Err}
+use Rattle.answer.specs.Refusals.{number_of}
+use Rattle.storage.specs.Elements.{part_at, element_at, plain_only, located_at}
+use Rattle.storage.proofs.Elements.{plain_tag, unstored, plain, extended, kind_at}
 use Rattle.records.specs.Readings.{record_at, record_of, record_bytes}
 use Rattle.directory.specs.Faults.{opened_rules}
 use Rattle.records.specs.RecordRules.{slot_in, plain_rules, record_rules}
-use Rattle.records.proofs.Readings.{reads_refusal, reads_broken, reads_passed, reads_bytes}
+use Rattle.records.proofs.Readings.{reads_refusal, reads_stopped, reads_passed, reads_bytes}
 
 -- ---- Plain storage
 
 -- what was found is refused, or its element stands at its slot and goes by the rules after these
 module _ (Granted : Type 0) (Refused : ℕ → ℕ → Type 0) (s : List ℕ) (rest : Rules) where
-  pub goes_plain : (found : Hit) → ((x : Refusal) → located_at s found ≡ located.Refused x → Refused x.number x.place)
-      → ((o n : ℕ) → located_at s found ≡ located.Plain (slot_in found) o n → Goes rest Granted Refused) → Goes (plain_rules s found rest) Granted Refused
+  pub goes_plain : (found : Hit) → ((x : Refusal) → located_at s found ≡ Err x → Refused (number_of x.rule) x.place)
+      → ((o n : ℕ) → located_at s found ≡ Ok (part_at (slot_in found) o n) → Goes rest Granted Refused) → Goes (plain_rules s found rest) Granted Refused
   unfolding element_at
   goes_plain miss refused stands =
       let none : (q : ℕ) → ◌≡◌ {A = Hit} miss (hit q) → ⊥ = λ q e. let z : ◌≡◌ {A = ℕ} 0 1 = cc in omega arith in
@@ -138,22 +139,21 @@ module _ (k : ℕ) where
 
   module _ (s : List ℕ) (found : Hit) (fault : List ℕ → ℕ) (answer : ℕ → List ℕ → Answer) where
     -- a plain element: the first rule that its bytes break, or what the call goes on to
-    reads_plain : (p o n : ℕ) → located_at s found ≡ located.Plain p o n
+    reads_plain : (p o n : ℕ) → located_at s found ≡ Ok (part_at p o n)
         → let e = record_bytes s found in record_at k s found fault answer ≡ unless k (fault e) p (answer o e)
     reads_plain p o n l =
         let e = record_bytes s found in
-        let b = reads_bytes s found _ refl p o n l in
+        let b = reads_bytes s found _ refl _ l in
         elim (same? (fault e) 0) [
-          | inl z ↦ reads_passed k s found fault answer _ refl p o n l e b z ∙ sym (unless_passes k _ p _ z)
-          | inr z ↦ reads_broken k s found fault answer _ refl p o n l e b _ refl z ∙ refusal_is k _ z ∙ sym (unless_stops k _ p _ z)
+          | inl z ↦ reads_passed k s found fault answer _ refl _ l e b z ∙ sym (unless_passes k _ p _ z)
+          | inr z ↦ reads_stopped k s found fault answer _ refl _ l e b _ refl z ∙ sym (unless_stops k _ p _ z)
         ]
 
     pub by_plain : (rest : Rules) → ((o : ℕ) → let e = record_bytes s found in By k rest (unless k (fault e) (slot_in found) (answer o e)))
         → By k (plain_rules s found rest) (record_at k s found fault answer)
     by_plain rest own =
         goes_plain _ _ s rest found
-        (λ x e. let z = located_positive (element_at s found) x e in
-        (reads_refusal k s found fault answer _ refl x e x (sym (ap refusal_in e)) ∙ refusal_is k x z, z))
+        (λ x e. (reads_refusal k s found fault answer _ refl x e ∙ refusal_is k x, number_positive x.rule))
         (λ o n l. by_same rest _ _ (reads_plain _ o n l) (own o))
 
   -- a record on an image, by the rules of its bytes and those after them

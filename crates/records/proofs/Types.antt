@@ -5,13 +5,14 @@ use mathlib.Core.Path.{◌≡◌, refl, sym, ap, subst, ◌∙◌}
 use mathlib.Core.Logic.{◌↔◌, ◌⊎◌, inl, inr}
 use mathlib.Core.List.{List, [], ◌∷◌}
 use mathlib.Core.Bool.{true}
+use Rattle.std.specs.Prelude.{None}
 use lib.Dec.{leb}
 use borrow.Author.Tests.{eq-eqb, ne_eqb, leb-true, leb-false, le-leb, lt-leb}
 use Rattle.answer.specs.Search.{In}
 use Rattle.answer.proofs.Tests.{test, same?}
 use Rattle.wire.specs.declared.ByteOrder.{ByteOrder}
 use Rattle.wire.specs.declared.ByteOrder.TheVariants.{BigEndian, LittleEndian}
-use Rattle.records.specs.Types.{unsigned, TypeRow, types, row_of, base_type, byte_order_of, width_of, kind_of, TypeIs, type_3, type_4, type_20, type_21, type_22, type_23, type_24, type_25, type_5, type_6, CodeIs, big_endian, little_endian, KnownType}
+use Rattle.records.specs.Types.{unsigned, TypeRow, types, row_of, row_found, base_type, byte_order_of, width_of, kind_of, TypeIs, type_3, type_4, type_20, type_21, type_22, type_23, type_24, type_25, type_5, type_6, CodeIs, big_endian, little_endian, KnownType}
 
 -- ---- A table
 
@@ -22,6 +23,10 @@ row_here code r rs e = simp (row_of, eq-eqb _ _ e)
 row_later : (code : ℕ) (r : TypeRow) (rs : List TypeRow) → (code ≡ r.code → ⊥) → row_of code (r ∷ rs) ≡ row_of code rs
 unfolding row_of
 row_later code r rs h = simp (row_of, ne_eqb _ _ h)
+
+row_past : (code : ℕ) → row_of code [] ≡ row_found code None
+unfolding row_of
+row_past code = refl
 
 -- what holds of each row that has the code, and of a type that no row has
 abbrev pub Each : (TypeRow → Type 0) → ℕ → List TypeRow → Type 0
@@ -92,29 +97,12 @@ kind_by code base own is e = ap (λ k. (row_of k types).kind) (sym is ∙ e)
 
 -- ---- The types: 3, 4, 20, 21, 22, 23, 24, 25, 5, 6, and every other
 
-pub width_unknown : (code base : ℕ) → base ≡ base_type code → (base ≡ 3 → ⊥) → (base ≡ 4 → ⊥) → (base ≡ 20 → ⊥) → (base ≡ 21 → ⊥) → (base ≡ 22 → ⊥)
-    → (base ≡ 23 → ⊥) → (base ≡ 24 → ⊥) → (base ≡ 25 → ⊥) → (base ≡ 5 → ⊥) → (base ≡ 6 → ⊥) → width_of code ≡ 0
-width_unknown code base is a b c d e f g h i j =
-    width_by code base base is refl
-    ∙ row_is (λ r. r.width ≡ 0) base types (
-      (λ q. absurd (a q)),
-      (
-        (λ q. absurd (b q)),
-        (
-          (λ q. absurd (c q)),
-          (
-            (λ q. absurd (d q)),
-            (
-              (λ q. absurd (e q)),
-              (
-                (λ q. absurd (f q)),
-                ((λ q. absurd (g q)), ((λ q. absurd (h q)), ((λ q. absurd (i q)), ((λ q. absurd (j q)), refl)))),
-              ),
-            ),
-          ),
-        ),
-      ),
-    )
+pub row_unknown : (code base : ℕ) → base ≡ base_type code → (base ≡ 3 → ⊥) → (base ≡ 4 → ⊥) → (base ≡ 20 → ⊥) → (base ≡ 21 → ⊥) → (base ≡ 22 → ⊥) → (base ≡ 23 → ⊥)
+    → (base ≡ 24 → ⊥) → (base ≡ 25 → ⊥) → (base ≡ 5 → ⊥) → (base ≡ 6 → ⊥) → row_found (base_type code) None ≡ row_of (base_type code) types
+row_unknown code base is a b c d e f g h i j =
+    let later = row_later base in
+    rw (← is) (sym
+    (later _ _ a ∙ later _ _ b ∙ later _ _ c ∙ later _ _ d ∙ later _ _ e ∙ later _ _ f ∙ later _ _ g ∙ later _ _ h ∙ later _ _ i ∙ later _ _ j ∙ row_past base))
 
 pub kind_unsigned : (code base : ℕ) → base ≡ base_type code → (base ≡ 20 → ⊥) → (base ≡ 22 → ⊥) → (base ≡ 24 → ⊥) → (base ≡ 5 → ⊥) → (base ≡ 6 → ⊥)
     → kind_of code ≡ unsigned

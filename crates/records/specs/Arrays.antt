@@ -1,5 +1,5 @@
 -- Arrays, tag 701, after document 01, "Records". Assumes nothing.
-use Rattle.std.specs.Prelude.{ℕ, ◌+◌, ◌*◌, List, [], ◌∷◌, ◌++◌, ◌&&◌, length, leb, eqb}
+use Rattle.std.specs.Prelude.{ℕ, ◌+◌, ◌*◌, List, [], ◌∷◌, ◌++◌, ◌&&◌, length, leb, eqb, Result, Ok, Err}
 use Rattle.answer.specs.Answer.{Answer, grant, refusal, in_room}
 use Rattle.answer.specs.Search.{must, Hit}
 use Rattle.records.specs.Limits.{array_tag, most_count}
@@ -10,16 +10,15 @@ use Rattle.directory.specs.Lookup.{find}
 use Rattle.answer.specs.Lent.{Does}
 use Rattle.records.specs.Readings.{record_at, exactly}
 use Rattle.records.specs.declared.array.Array.{Array}
-use Rattle.records.specs.declared.array.Answered.{Answered}
-use Rattle.records.specs.declared.array.Answered.TheVariants.{Rank, Refused}
+use Rattle.answer.specs.declared.Refusal.{Refusal}
 
 -- rank of 16 bits, rank sizes of 32, then rank + 1 pairs of tag and reference, the data's type first
 abbrev pub array : Layout Array
 array = number 2 (λ rank. run 4 rank (λ sizes. run 2 (2 * (rank + 1)) (λ pairs. end (λ at. record { rank = rank; sizes = sizes; pairs = pairs }))))
 
-abbrev pub array_numbers : Answered → Answer
-array_numbers (Rank n) = grant (n ∷ [])
-array_numbers (Refused r) = refusal 1 r
+abbrev pub array_numbers : Result ℕ Refusal → Answer
+array_numbers (Ok n) = grant (n ∷ [])
+array_numbers (Err r) = refusal 1 r
 
 -- exactly 6 + 8 x rank bytes, rank at least 1
 unfoldable pub array_fault : List ℕ → ℕ

@@ -1,5 +1,5 @@
 -- Dimensions, tags 300, 307 and 308, after document 01, "Records". Assumes nothing.
-use Rattle.std.specs.Prelude.{ℕ, List, [], ◌∷◌, leb}
+use Rattle.std.specs.Prelude.{ℕ, List, [], ◌∷◌, leb, Result, Ok, Err}
 use Rattle.answer.specs.Answer.{Answer, grant, refusal}
 use Rattle.answer.specs.Search.{must, Hit}
 use Rattle.records.specs.Limits.{most_interlace}
@@ -9,8 +9,7 @@ use Rattle.directory.specs.Opening.{opened}
 use Rattle.directory.specs.Lookup.{find}
 use Rattle.records.specs.Readings.{record_at, exactly}
 use Rattle.records.specs.declared.dimension.Dimension.{Dimension}
-use Rattle.records.specs.declared.dimension.Answered.{Answered}
-use Rattle.records.specs.declared.dimension.Answered.TheVariants.{Values, Refused}
+use Rattle.answer.specs.declared.Refusal.{Refusal}
 
 -- x and y of 32 bits; type tag, type reference, elements, interlace, compression tag, compression reference of 16
 abbrev pub dimension : Layout Dimension
@@ -32,9 +31,9 @@ abbrev pub dimension_values : Dimension → List ℕ
 dimension_values d =
     d.x ∷ d.y ∷ d.type_tag ∷ d.type_ref ∷ d.elements ∷ d.interlace ∷ d.compression_tag ∷ d.compression_ref ∷ []
 
-abbrev pub dimension_numbers : Answered → Answer
-dimension_numbers (Values d) = grant (dimension_values d)
-dimension_numbers (Refused r) = refusal 8 r
+abbrev pub dimension_numbers : Result Dimension Refusal → Answer
+dimension_numbers (Ok d) = grant (dimension_values d)
+dimension_numbers (Err r) = refusal 8 r
 
 -- exactly 20 bytes, interlace 0 to 2
 unfoldable pub dimension_fault : List ℕ → ℕ

@@ -1,5 +1,5 @@
 -- Number types, tag 106, after document 01, "Records". Assumes nothing.
-use Rattle.std.specs.Prelude.{ℕ, List, [], ◌∷◌}
+use Rattle.std.specs.Prelude.{ℕ, List, [], ◌∷◌, Result, Ok, Err}
 use Rattle.answer.specs.Answer.{Answer, grant, refusal}
 use Rattle.answer.specs.Search.{must, Hit}
 use Rattle.records.specs.Limits.{number_type_tag}
@@ -9,8 +9,7 @@ use Rattle.directory.specs.Opening.{opened}
 use Rattle.directory.specs.Lookup.{find}
 use Rattle.records.specs.Readings.{record_at, exactly}
 use Rattle.records.specs.declared.number_type.NumberType.{NumberType}
-use Rattle.records.specs.declared.number_type.Answered.{Answered}
-use Rattle.records.specs.declared.number_type.Answered.TheVariants.{Values, Refused}
+use Rattle.answer.specs.declared.Refusal.{Refusal}
 
 -- version, type, width, class: a byte each, any values
 abbrev pub number_type : Layout NumberType
@@ -20,9 +19,9 @@ number_type =
 abbrev pub number_type_values : NumberType → List ℕ
 number_type_values x = x.version ∷ x.code ∷ x.width ∷ x.class ∷ []
 
-abbrev pub number_type_numbers : Answered → Answer
-number_type_numbers (Values x) = grant (number_type_values x)
-number_type_numbers (Refused r) = refusal 4 r
+abbrev pub number_type_numbers : Result NumberType Refusal → Answer
+number_type_numbers (Ok x) = grant (number_type_values x)
+number_type_numbers (Err r) = refusal 4 r
 
 -- exactly 4 bytes
 unfoldable pub number_type_fault : List ℕ → ℕ

@@ -1,14 +1,13 @@
 -- Packing a record into a lent buffer, after document 01, "Records". Assumes nothing.
-use Rattle.std.specs.Prelude.{ℕ, ◌≤◌, ◌≡◌, List, [], ◌∷◌, length, leb}
+use Rattle.std.specs.Prelude.{ℕ, ◌≤◌, ◌≡◌, List, [], ◌∷◌, length, leb, Result, Ok, Err}
 use Rattle.answer.specs.Answer.{Answer, grant, refusal, unless, in_room}
 use Rattle.answer.specs.Lent.{Does}
-use Rattle.records.specs.declared.Packed.{Packed}
-use Rattle.records.specs.declared.Packed.TheVariants.{Bytes, Refused}
+use Rattle.answer.specs.declared.Refusal.{Refusal}
 
 -- packing answers the number of bytes
-abbrev pub packed_numbers : Packed → Answer
-packed_numbers (Bytes n) = grant (n ∷ [])
-packed_numbers (Refused r) = refusal 1 r
+abbrev pub packed_numbers : Result ℕ Refusal → Answer
+packed_numbers (Ok n) = grant (n ∷ [])
+packed_numbers (Err r) = refusal 1 r
 
 -- the first rule that the values break, at 0, then 14 where the lent buffer is too short
 unfoldable pub pack_of : ℕ → List ℕ → ℕ → Answer

@@ -1,8 +1,10 @@
 -- Types of numbers in Vdatas and arrays, after document 01, "Records", in either byte order, after document 02, (xi). Assumes nothing.
-use Rattle.std.specs.Prelude.{ℕ, ◌+◌, ◌-◌, ◌≡◌, List, [], ◌∷◌, true, false, eqb, leb}
+use Rattle.std.specs.Prelude.{ℕ, ◌+◌, ◌-◌, ◌≡◌, List, [], ◌∷◌, Bool, true, false, Option, Some, None, eqb, leb}
 use Rattle.wire.specs.declared.ByteOrder.{ByteOrder}
 use Rattle.wire.specs.declared.ByteOrder.TheVariants.{BigEndian, LittleEndian}
 use Rattle.records.specs.Limits.{little_endian_types}
+use Rattle.records.specs.declared.scalar.Scalar.{Scalar}
+use Rattle.records.specs.declared.scalar.Scalar.TheVariants as scalar
 
 pub data Kind : Type 0 where
   signed : Kind
@@ -27,6 +29,32 @@ types =
 unfoldable pub row_of : ℕ → List TypeRow → TypeRow
 row_of code [] = row code 0 unsigned
 row_of code (r ∷ rs) = elim (eqb code r.code) [ true ↦ r | false ↦ row_of code rs ]
+
+-- a known type's own code, and its row
+abbrev own_code : Scalar → ℕ
+own_code scalar.UChar = 3
+own_code scalar.Char = 4
+own_code scalar.Float32 = 5
+own_code scalar.Float64 = 6
+own_code scalar.Int8 = 20
+own_code scalar.UInt8 = 21
+own_code scalar.Int16 = 22
+own_code scalar.UInt16 = 23
+own_code scalar.Int32 = 24
+own_code scalar.UInt32 = 25
+
+abbrev pub row_of_type : Scalar → TypeRow
+row_of_type t = row_of (own_code t) types
+
+-- the row of a code, by the type that it was found to be of
+abbrev pub row_found : ℕ → Option Scalar → TypeRow
+row_found code (Some t) = row_of_type t
+row_found code None = row code 0 unsigned
+
+abbrev pub is_signed : Kind → Bool
+is_signed signed = true
+is_signed unsigned = false
+is_signed float = false
 
 -- a code with 16384 added is of the same type, low byte first: the type's own code, 16384 taken off once, and the byte order of its values
 unfoldable pub base_type : ℕ → ℕ

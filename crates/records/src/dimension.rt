@@ -1,20 +1,20 @@
 // Dimensions, tags 300, 307 and 308.
+#![tactic(auto, unfolding(crate::specs::Dimensions::dimension_fault, answer::specs::Search::must, wire::specs::Layouts::read, wire::specs::Layouts::extent))]
+
 ghost use Rattle.std.specs.Prelude.{◌≡◌};
+ghost use Rattle.answer.specs.Refusals.{fault_of};
 ghost use Rattle.wire.specs.Layouts as Layout;
 ghost use Rattle.directory.specs.Lookup.{find_in};
 ghost use Rattle.records.specs.Packings.{packed_numbers, Packs};
 ghost use Rattle.records.specs.Dimensions.{dimension_fault, dimension_numbers, dimension_at, dimension_of, dimension_bytes, dimension_pack_fault};
 ghost use Rattle.records.specs.Dimensions as Dimensions;
 
-use super::Packed;
 use super::format::MOST_INTERLACE;
 use answer::Refusal;
-use answer::refusals::{RECORD, SMALL};
-use directory::Opened;
+use answer::refusals::Rule;
 use storage::element;
-use storage::element::Located;
 
-#[derive(Clone, Copy)]
+#[derive(Clone, Copy, PartialEq, Eq)]
 pub struct Dimension {
     pub x: u32,
     pub y: u32,
@@ -24,12 +24,6 @@ pub struct Dimension {
     pub interlace: u16,
     pub compression_tag: u16,
     pub compression_ref: u16,
-}
-
-#[derive(Clone, Copy)]
-pub enum Answered {
-    Values(Dimension),
-    Refused(Refusal),
 }
 
 fn parse(part: &[u8]) -> Dimension
@@ -47,69 +41,51 @@ fn parse(part: &[u8]) -> Dimension
     }
 }
 
-// The number of the rule that a dimension's bytes break, 0 where they break none.
-fn fault(part: &[u8]) -> usize
-    ensures { result ≡ dimension_fault part.now }
+// The rules of a dimension's bytes.
+fn check(part: &[u8]) -> Result<(), Rule>
+    ensures { fault_of result ≡ dimension_fault part.now }
 {
     if part.len() != 20 {
-        return RECORD;
+        return Err(Rule::Record);
     }
     if MOST_INTERLACE < wire::read16(part, 14) {
-        return RECORD;
+        return Err(Rule::Record);
     }
-    0
+    Ok(())
 }
 
 // Reads the dimension of a tag and a reference, in a chain of so many blocks.
-pub fn read_in(image: &[u8], blocks: usize, tag: u16, reference: u16) -> Answered
+pub fn read_in(image: &[u8], blocks: usize, tag: u16, reference: u16) -> Result<Dimension, Refusal>
     ensures { dimension_numbers result ≡ dimension_at image.now (find_in image.now blocks tag reference) }
 {
-    let located = element::locate(image, blocks, tag, reference);
-    let Located::Plain {
-        slot,
-        offset,
-        length,
-    } = located
-    else {
-        return Answered::Refused(element::refusal_of(located));
-    };
-    let part = wire::part(image, offset, length);
-    let number = fault(part);
-    if number != 0 {
-        return Answered::Refused(Refusal {
-            number,
-            place: slot,
-        });
+    let found = element::locate(image, blocks, tag, reference)?;
+    let part = wire::part(image, found.offset, found.length);
+    if let Err(rule) = check(part) {
+        return Err(rule.at(found.slot));
     }
-    Answered::Values(parse(part))
+    Ok(parse(part))
 }
 
 // The same in an image that is opened first.
-pub fn read(image: &[u8], tag: u16, reference: u16) -> Answered
+pub fn read(image: &[u8], tag: u16, reference: u16) -> Result<Dimension, Refusal>
     ensures { dimension_numbers result ≡ dimension_of image.now tag reference }
 {
     let opened = directory::open(image);
-    let Opened::Accepted(counts) = opened else {
-        return Answered::Refused(directory::refusal_of(opened));
+    let Ok(counts) = opened else {
+        return Err(opened.unwrap_err());
     };
     read_in(image, counts.blocks, tag, reference)
 }
 
 // Packs a dimension into the front of a lent buffer.
-pub fn pack(d: Dimension, out: &mut [u8]) -> Packed
+pub fn pack(d: Dimension, out: &mut [u8]) -> Result<usize, Refusal>
     ensures { Packs (dimension_pack_fault d) (dimension_bytes d) out.old out.new (packed_numbers result) }
 {
     if MOST_INTERLACE < d.interlace as usize {
-        return Packed::Refused(Refusal {
-            number: RECORD,
-            place: 0,
-        });
+        return Err(Rule::Record.at(0));
     }
     if out.len() < 20 {
-        return Packed::Refused(Refusal {
-            number: SMALL,
-            place: 0,
-        });
+        return Err(Rule::Small.at(0));
     }
     wire::write32(out, 0, d.x as usize);
     wire::write32(out, 4, d.y as usize);
@@ -119,5 +95,5 @@ pub fn pack(d: Dimension, out: &mut [u8]) -> Packed
     wire::write16(out, 14, d.interlace as usize);
     wire::write16(out, 16, d.compression_tag as usize);
     wire::write16(out, 18, d.compression_ref as usize);
-    Packed::Bytes(20)
+    Ok(20)
 }

@@ -8,12 +8,3 @@ pub mod format;
 pub mod number_type;
 pub mod runs;
 pub mod scalar;
-
-use answer::Refusal;
-
-// How many bytes were packed.
-#[derive(Clone, Copy)]
-pub enum Packed {
-    Bytes(usize),
-    Refused(Refusal),
-}

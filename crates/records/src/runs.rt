@@ -1,53 +1,78 @@
 // Runs of numbers between a record's bytes and lent lists.
-ghost use Rattle.std.specs.Prelude.{◌≡◌, ◌+◌, ◌*◌, ◌≤◌, length};
+ghost use Rattle.std.specs.Prelude.{ℕ, ◌≡◌, ◌+◌, ◌*◌, ◌≤◌, length, map};
 ghost use Rattle.std.proofs.lemmas.List.Edits.{sets};
-ghost use Rattle.wire.specs.Numbers.{put};
+ghost use Rattle.wire.specs.Numbers.{be, bytes, put};
 ghost use Rattle.wire.specs.Layouts.{numbers_at, bytes_each};
 
-// Takes so many numbers of 16 bits, from a place of a record on, to the front of a list.
-pub(crate) fn take16(part: &[u8], at: usize, count: usize, list: &mut [u16])
-    requires { (count ≤ length list.old) × (at + 2 * count ≤ length part.now) }
-    ensures { list.new ≡ sets list.old 0 (numbers_at 2 count part.now at) }
-{
-    let mut i = 0;
-    while i < count {
-        list[i] = wire::read16(part, at + 2 * i) as u16;
-        i += 1;
+// The type of a run's numbers: how many bytes each has, and a number of the bytes as one of the list and back.
+pub(crate) trait Number: Copy {
+    ghost WIDTH: { ℕ };
+
+    ghost of: { ℕ → Self };
+
+    ghost value: { Self → ℕ };
+
+    const WIDTH: usize;
+
+    fn read(part: &[u8], at: usize) -> Self
+        ensures { result ≡ of (be WIDTH part.now at) };
+
+    fn write(self, out: &mut [u8], at: usize)
+        ensures { out.new ≡ put out.old at (bytes WIDTH (value self)) };
+}
+
+impl Number for u16 {
+    ghost WIDTH = { 2 };
+
+    ghost of = { λ n. n };
+
+    ghost value = { λ x. x };
+
+    const WIDTH: usize = 2;
+
+    fn read(part: &[u8], at: usize) -> u16 {
+        wire::read16(part, at) as u16
+    }
+
+    fn write(self, out: &mut [u8], at: usize) {
+        wire::write16(out, at, self as usize);
     }
 }
 
-// The same for numbers of 32 bits.
-pub(crate) fn take32(part: &[u8], at: usize, count: usize, list: &mut [u32])
-    requires { (count ≤ length list.old) × (at + 4 * count ≤ length part.now) }
-    ensures { list.new ≡ sets list.old 0 (numbers_at 4 count part.now at) }
-{
-    let mut i = 0;
-    while i < count {
-        list[i] = wire::read32(part, at + 4 * i) as u32;
-        i += 1;
+impl Number for u32 {
+    ghost WIDTH = { 4 };
+
+    ghost of = { λ n. n };
+
+    ghost value = { λ x. x };
+
+    const WIDTH: usize = 4;
+
+    fn read(part: &[u8], at: usize) -> u32 {
+        wire::read32(part, at) as u32
+    }
+
+    fn write(self, out: &mut [u8], at: usize) {
+        wire::write32(out, at, self as usize);
     }
 }
 
-// Lays the numbers of a list, 16 bits each, from a place of a buffer on.
-pub(crate) fn lay16(out: &mut [u8], at: usize, list: &[u16])
-    requires { at + 2 * length list.now ≤ length out.old }
-    ensures { out.new ≡ put out.old at (bytes_each 2 list.now) }
+// Takes so many numbers, from a place of a record on, to the front of a list.
+pub(crate) fn take<T: Number>(part: &[u8], at: usize, count: usize, list: &mut [T])
+    requires { (count ≤ length list.old) × (at + T.WIDTH * count ≤ length part.now) }
+    ensures { list.new ≡ sets list.old 0 (map T.of (numbers_at T.WIDTH count part.now at)) }
 {
-    let mut i = 0;
-    while i < list.len() {
-        wire::write16(out, at + 2 * i, list[i] as usize);
-        i += 1;
+    for i in 0..count {
+        list[i] = T::read(part, at + T::WIDTH * i);
     }
 }
 
-// The same for numbers of 32 bits.
-pub(crate) fn lay32(out: &mut [u8], at: usize, list: &[u32])
-    requires { at + 4 * length list.now ≤ length out.old }
-    ensures { out.new ≡ put out.old at (bytes_each 4 list.now) }
+// Lays the numbers of a list from a place of a buffer on.
+pub(crate) fn lay<T: Number>(out: &mut [u8], at: usize, list: &[T])
+    requires { at + T.WIDTH * length list.now ≤ length out.old }
+    ensures { out.new ≡ put out.old at (bytes_each T.WIDTH (map T.value list.now)) }
 {
-    let mut i = 0;
-    while i < list.len() {
-        wire::write32(out, at + 4 * i, list[i] as usize);
-        i += 1;
+    for (i, &x) in list.iter().enumerate() {
+        x.write(out, at + T::WIDTH * i);
     }
 }

@@ -1,12 +1,11 @@
 -- The answer of a choice between two images from what is found in each, and the bytes that it names. Assumes nothing.
 use Prim.Native.Nat.{ℕ}
-use mathlib.Core.Path.{◌≡◌, ap, ◌∙◌}
-use mathlib.Core.Logic.{inl, inr}
+use mathlib.Core.Path.{◌≡◌, refl, ap, ◌∙◌}
 use mathlib.Core.Bool.{true, false}
 use mathlib.Core.List.{List, [], ◌∷◌}
 use Rattle.answer.specs.Answer.{Answer, grant, refusal}
 use Rattle.answer.specs.declared.Refusal.{Refusal}
-use Rattle.answer.proofs.Tests.{on_true, on_false, zero?}
+use Rattle.answer.proofs.Tests.{on_true, on_false}
 use Rattle.wire.specs.Numbers.{part}
 use Rattle.directory.specs.Opening.{open_of, opened}
 use Rattle.directory.specs.Lookup.{find}
@@ -14,6 +13,7 @@ use Rattle.directory.proofs.Opens.{opened_goes}
 use Rattle.storage.specs.Elements.{element_at, is_absent, plain_only}
 use Rattle.storage.specs.Choices.{part_in, choose_found, choose_of, chosen_bytes}
 use Rattle.storage.specs.declared.element.Element.{Element}
+use Rattle.storage.specs.declared.element.Element.TheVariants.{Absent, NotStored, Plain, Extended}
 
 -- where both images open
 module _ (s t : List ℕ) (tag ref : ℕ) (sound : (open_of s).number ≡ 0) (other : (open_of t).number ≡ 0) (x : Element) (e : element_at s (find s tag ref) ≡ x) where
@@ -31,6 +31,13 @@ module _ (s t : List ℕ) (tag ref : ℕ) (sound : (open_of s).number ≡ 0) (ot
   unfolding choose_found
   choose_fallback z y f = choose_goes ∙ on_true (is_absent x) _ _ z ∙ ap (λ z. part_in 2 (plain_only z)) f
 
+-- an element that is there in any way
+pub not_absent : (x : Element) → (x ≡ Absent → ⊥) → is_absent x ≡ false
+not_absent Absent z = absurd (z refl)
+not_absent (NotStored p) z = refl
+not_absent (Plain x) z = refl
+not_absent (Extended p) z = refl
+
 -- ---- The bytes that an answer names
 
 module _ (s t : List ℕ) (answer : Answer) where
@@ -44,4 +51,4 @@ module _ (s t : List ℕ) (answer : Answer) where
 
   pub bytes_neither : (r : Refusal) → answer ≡ refusal 3 r → chosen_bytes s t answer ≡ []
   unfolding chosen_bytes
-  bytes_neither r e = elim (zero? r.number) [ inl z ↦ rw (e, z) | inr m ↦ rw (e, m.1) ]
+  bytes_neither r e = rw e

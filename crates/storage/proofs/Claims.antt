@@ -7,6 +7,7 @@ use mathlib.Core.List.{List, [], ◌∷◌, ◌++◌}
 use mathlib.Core.Bool.{true, false}
 use lib.ListN.{length, get_or, take, drop, length-append, length-drop}
 use lib.Seq.{take_at, drop_at}
+use Rattle.answer.specs.declared.refusals.Rule.TheVariants.{Storage}
 use Rattle.answer.specs.Refusals.{ABSENT, STORAGE}
 use Rattle.answer.specs.Answer.{grant, refuse, refuse_carrying}
 use Rattle.answer.specs.Rules.{AllHold, FirstBroken}
@@ -47,7 +48,7 @@ pub view_extended : (s : List ℕ) (tag ref p : ℕ) → (open_of s).number ≡ 
     → (view_of s tag ref ≡ refuse 2 STORAGE p) × (bytes_of s (view_of s tag ref) ≡ [])
 view_extended s tag ref p opens named stored e =
     let v = Views.view_goes s tag ref opens _ (named_extended s tag ref p opens named stored e) in
-    (v, Views.bytes_refused s (view_of s tag ref) (record { number = STORAGE; place = p }) v)
+    (v, Views.bytes_refused s (view_of s tag ref) (record { rule = Storage; place = p }) v)
 
 pub view_absent : (s : List ℕ) (tag ref : ℕ) → (open_of s).number ≡ 0 → ((p : ℕ) → Named s tag ref p → ⊥) → view_of s tag ref ≡ refuse 2 ABSENT 0
 view_absent s tag ref opens none = Views.view_goes s tag ref opens _ (named_absent s tag ref none)

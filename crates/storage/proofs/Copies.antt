@@ -9,7 +9,10 @@ use lib.ListN.{length}
 use borrow.Author.Tests.{le-leb, lt-leb}
 use Rattle.answer.specs.Answer.{Answer, grant, refuse, carried, refuse_carrying, refusal, carrying, unless_carrying}
 use Rattle.answer.specs.Lent.{Does}
-use Rattle.answer.proofs.Answer.{unless_with_passes, unless_with_stops, unless_passes, unless_stops, in_room_enough, in_room_short}
+use Rattle.answer.specs.Refusals.{number_of}
+use Rattle.answer.specs.declared.refusals.Rule.{Rule}
+use Rattle.answer.specs.declared.refusals.Rule.TheVariants.{Small}
+use Rattle.answer.proofs.Answer.{number_positive, unless_with_passes, unless_with_stops, unless_passes, unless_stops, in_room_enough, in_room_short}
 use Rattle.answer.proofs.Tests.{same?, le?}
 use Rattle.answer.proofs.Lent.{refuses_with, refuses, grants}
 use Rattle.wire.specs.Numbers.{put, part}
@@ -20,12 +23,15 @@ use Rattle.directory.specs.Lookup.{find}
 use Rattle.directory.specs.Rules.{IsStored}
 use Rattle.directory.specs.Named.{Named}
 use Rattle.directory.proofs.Opens.{opened_goes, opened_passed}
-use Rattle.storage.specs.Elements.{element_at}
+use Rattle.std.specs.Prelude.{Result, Ok, Err}
+use Rattle.storage.specs.Elements.{element_at, plain_only, on_plain}
 use Rattle.storage.specs.Descriptions.{description_of, record_length, record_fault}
-use Rattle.storage.specs.Walks.{chain_of}
+use Rattle.storage.specs.Walks.{Walk, chain_of}
 use Rattle.storage.specs.Copies.{Stored, in_place, in_blocks, copy_at, copy_found, copy_of, bytes_found, element_bytes}
 use Rattle.storage.specs.declared.element.Element.{Element}
 use Rattle.storage.specs.declared.element.Element.TheVariants.{Absent, NotStored, Plain, Extended}
+use Rattle.storage.specs.Steps.{BreaksAt, Followed}
+use Rattle.storage.specs.declared.linked.Broken.{Broken}
 use Rattle.storage.specs.declared.description.Description.{Description}
 use Rattle.storage.proofs.Named.{named_unstored}
 use Rattle.storage.proofs.Elements.{found_plain}
@@ -95,23 +101,23 @@ module _ (s : List ℕ) (p : ℕ) (r out : List ℕ) where
   abbrev InBlocks : List ℕ → Answer → Type 0
   InBlocks after numbers = Does (copy_at (length out) p (in_blocks s r)) (in_blocks s r).bytes out after numbers
 
-  pub blocks_record : (n : ℕ) → n ≡ record_fault r → (n ≡ 0 → ⊥) → InBlocks out (refusal 2 (record { number = n; place = p }))
+  pub blocks_record : (x : Rule) → number_of x ≡ record_fault r → InBlocks out (refusal 2 (record { rule = x; place = p }))
   unfolding in_blocks
-  blocks_record n e z = refuses _ _ out 2 _ (copy_record (length out) p (in_blocks s r) (λ q. z (e ∙ q)) ∙ rw e) z
+  blocks_record x e = refuses _ _ out 2 _ (copy_record (length out) p (in_blocks s r) (λ q. number_positive x (e ∙ q)) ∙ ap (λ n. refuse 2 n p) (sym e))
 
   module _ (sound : record_fault r ≡ 0) where
-    pub blocks_small : length out < record_length r → InBlocks out (refuse 2 14 0)
+    pub blocks_small : length out < record_length r → InBlocks out (refusal 2 (record { rule = Small; place = 0 }))
     unfolding in_blocks
-    blocks_small h = refuses _ _ out 2 _ (copy_small (length out) p (in_blocks s r) sound h) (λ z. omega arith)
+    blocks_small h = refuses _ _ out 2 (record { rule = Small; place = 0 }) (copy_small (length out) p (in_blocks s r) sound h)
 
     module _ (fits : record_length r ≤ length out) (d : Description) (is : d ≡ description_of s r) where
-      pub blocks_chain : (n i : ℕ) → n ≡ (chain_of s d).fault → i ≡ (chain_of s d).index → (n ≡ 0 → ⊥)
-          → InBlocks out (carrying 1 (record { number = n; place = p; value = i }))
+      pub blocks_chain : (b : Broken) → BreaksAt (chain_of s d) b → InBlocks out (carrying 1 (record { rule = b.rule; place = p; value = b.index }))
       unfolding in_blocks
-      blocks_chain n i e q z =
-          let f : n ≡ (chain_of s (description_of s r)).fault = rw is at e in
-          let g : i ≡ (chain_of s (description_of s r)).index = rw is at q in
-          refuses_with _ _ out (carried 1 i) n p (copy_chain (length out) p (in_blocks s r) sound fits (λ h. z (f ∙ h)) ∙ rw (f, g)) z
+      blocks_chain b e =
+          let f : (chain_of s (description_of s r)).fault ≡ number_of b.rule = rw is at e.0 in
+          let g : (chain_of s (description_of s r)).index ≡ b.index = rw is at e.1 in
+          let positive = number_positive b.rule in
+          refuses_with _ _ out (carried 1 b.index) (number_of b.rule) p (copy_chain (length out) p (in_blocks s r) sound fits (λ h. positive (sym f ∙ h)) ∙ rw (f, g)) positive
 
       pub blocks_granted : (chain_of s d).fault ≡ 0 → (after : List ℕ) → after ≡ put out 0 (chain_of s d).bytes → InBlocks after (grant (d.length ∷ 0 ∷ []))
       unfolding in_blocks
@@ -120,6 +126,11 @@ module _ (s : List ℕ) (p : ℕ) (r out : List ℕ) where
           let n = chain_length s (description_of s r) f in
           let l : d.length ≡ record_length r = ap (λ x. x.length) is ∙ description_length r s in
           rw l (grants _ _ out (record_length r ∷ 0 ∷ []) (copy_granted (length out) p (in_blocks s r) sound fits f) after ((rw is at q) ∙ put_front out _ (omega (arith, description_length r s))))
+
+-- whatever a walk comes to, its bytes are in the buffer
+pub followed_leaves : (w : Walk) (out after : List ℕ) (r : Result Unit Broken) → Followed w out after r → after ≡ put out 0 w.bytes
+followed_leaves w out after (Ok x) f = f.1
+followed_leaves w out after (Err b) f = f.1
 
 -- ---- The call, where the image opens
 
@@ -136,11 +147,18 @@ module _ (s : List ℕ) (tag ref : ℕ) (sound : (open_of s).number ≡ 0) (x : 
       → Does (copy_of s tag ref (length out)) (element_bytes s tag ref) out after numbers
   copied out after numbers c = rw (copy_goes (length out), bytes_found_lem) c
 
+-- one that is not extended, by what a call reading plain storage alone makes of it
+pub copy_plain : (s : List ℕ) (room : ℕ) (x : Element) → ((p : ℕ) → x ≡ Extended p → ⊥) → copy_found s room x ≡ on_plain 2 (λ p offset size. copy_at room p (in_place s offset size)) (plain_only x)
+copy_plain s room Absent other = refl
+copy_plain s room (NotStored p) other = refl
+copy_plain s room (Plain x) other = refl
+copy_plain s room (Extended p) other = absurd (other p refl)
+
 -- what it does with an element in plain storage
 module _ (s : List ℕ) (p offset size : ℕ) (out : List ℕ) where
-  pub plain_small : length out < size → Does (copy_at (length out) p (in_place s offset size)) (in_place s offset size).bytes out out (refuse 2 14 0)
+  pub plain_small : length out < size → Does (copy_at (length out) p (in_place s offset size)) (in_place s offset size).bytes out out (refusal 2 (record { rule = Small; place = 0 }))
   unfolding in_place
-  plain_small h = refuses _ _ out 2 _ (copy_small (length out) p (in_place s offset size) refl h) (λ z. omega arith)
+  plain_small h = refuses _ _ out 2 (record { rule = Small; place = 0 }) (copy_small (length out) p (in_place s offset size) refl h)
 
   pub plain_granted : size ≤ length out → length (part s offset size) ≡ size → (after : List ℕ) → after ≡ put out 0 (part s offset size)
       → Does (copy_at (length out) p (in_place s offset size)) (in_place s offset size).bytes out after (grant (size ∷ 0 ∷ []))
@@ -172,9 +190,9 @@ granted_copy s tag ref room e = go (element_at s (find s tag ref)) refl
     go : (x : Element) → element_at s (find s tag ref) ≡ x → (n : ℕ) × Grants s tag ref room n
     go Absent f = absurd (suc-ne-zero 10 (ap (λ a. a.number) (sym (copy_goes s tag ref sound Absent f room)) ∙ e))
     go (NotStored p) f = absurd (suc-ne-zero 28 (ap (λ a. a.number) (sym (copy_goes s tag ref sound _ f room)) ∙ e))
-    go (Plain p offset size) f =
-        found p (in_place s offset size) (copy_goes s tag ref sound _ f room)
-        (λ c. ap length (bytes_found_lem s tag ref sound _ f) ∙ (found_plain s tag ref p offset size sound f).long)
+    go (Plain x) f =
+        found x.slot (in_place s x.offset x.length) (copy_goes s tag ref sound _ f room)
+        (λ c. ap length (bytes_found_lem s tag ref sound _ f) ∙ (found_plain s tag ref x.slot x.offset x.length sound f).long)
     go (Extended p) f =
         found p (in_blocks s (content_at s p)) (copy_goes s tag ref sound _ f room)
         (λ c. ap length (bytes_found_lem s tag ref sound _ f) ∙ chain_length s (description_of s (content_at s p)) c ∙ description_length (content_at s p) s)

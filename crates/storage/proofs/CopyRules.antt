@@ -195,5 +195,5 @@ module _ (s : List ℕ) (tag ref room : ℕ) where
       go : (open_of s).number ≡ 0 → (x : Element) → element_at s (find s tag ref) ≡ x → Shaped (copy_of s tag ref room)
       go opens Absent f = shaped_other (copy_of s tag ref room) 11 0 (copy_goes s tag ref opens Absent f room) (suc-ne-zero 10) (inl (omega arith))
       go opens (NotStored p) f = shaped_other (copy_of s tag ref room) 29 p (copy_goes s tag ref opens _ f room) (suc-ne-zero 28) (inr (omega arith))
-      go opens (Plain p offset size) f = plain_shaped s room p offset size (copy_of s tag ref room) (copy_goes s tag ref opens _ f room)
+      go opens (Plain x) f = plain_shaped s room x.slot x.offset x.length (copy_of s tag ref room) (copy_goes s tag ref opens _ f room)
       go opens (Extended p) f = linked_shaped s opens room p (copy_of s tag ref room) (copy_goes s tag ref opens _ f room)

@@ -1,38 +1,36 @@
 -- The elements of slots: the tests of the code, where their bytes stand, and what a lookup finds of them. Assumes nothing.
-use Prim.Native.Nat.{ℕ, zero, suc, ◌+◌, ◌*◌, ◌-◌, ◌<◌, ◌≤◌}
+use Prim.Native.Nat.{ℕ, zero, suc, ◌+◌, ◌*◌, ◌<◌, ◌≤◌}
 use native.Mathlib.Nat.{suc-ne-zero}
 use native.Mathlib.Omega.{arith}
 use mathlib.Core.Path.{◌≡◌, refl, sym, ap, ◌∙◌}
 use mathlib.Core.Logic.{◌↔◌, ◌⊎◌, inl, inr}
 use mathlib.Core.List.{List}
 use mathlib.Core.Bool.{true, false}
-use lib.Dec.{leb, ltb, eqb}
+use lib.Dec.{leb}
 use lib.ListN.{length, take, drop}
-use borrow.Author.Tests.{ltb-true, ltb-false, leb-true, leb-false, le-leb, lt-leb, eq-eqb, ne_eqb}
+use borrow.Author.Tests.{leb-true, leb-false, le-leb, lt-leb}
 use Rattle.answer.specs.Search.{Hit, hit, miss, In}
 use Rattle.answer.specs.Answer.{Answer}
-use Rattle.answer.specs.declared.Refusal.{Refusal}
-use Rattle.answer.proofs.Tests.{test, by_test, same?, zero?, in_append}
+use Rattle.answer.proofs.Tests.{test, by_test, zero?, in_append}
 use Rattle.wire.specs.Numbers.{part, Bytes}
 use Rattle.wire.specs.declared.ByteOrder.TheVariants.{BigEndian}
 use Rattle.wire.proofs.Numbers.{number_small, length_part}
-use Rattle.directory.specs.Limits.{lone_tag}
 use Rattle.directory.specs.Blocks.{slot_count, next_block}
-use Rattle.directory.specs.Slots.{tag_at, offset_at, rows, slots_of, base_tag, size_at, content_at}
+use Rattle.directory.specs.Slots.{tag_at, offset_at, rows, slots_of, size_at, content_at}
 use Rattle.directory.specs.Opening.{open_of}
 use Rattle.directory.specs.Links.{slots_after}
 use Rattle.directory.specs.Lookup.{find, find_in}
 use Rattle.directory.specs.Rules.{Live, Unstored, IsStored}
 use Rattle.directory.specs.Steps.Opens.{Opens}
 use Rattle.directory.specs.Steps.Cursors.{most_place}
-use Rattle.directory.proofs.Slots.{base_below, base_above, unstored_is, stored_is, size_unstored}
+use Rattle.directory.proofs.Slots.{unstored_is, stored_is, size_unstored}
 use Rattle.directory.proofs.Rules.{opens_kept}
 use Rattle.directory.proofs.Opens.{opened_find}
 use Rattle.directory.proofs.Named.{found_named}
-use Rattle.storage.specs.Elements.{extended_at, start_at, element_at, plain_only, located_at, refusal_in, on_plain}
+use Rattle.storage.specs.Elements.{extended_at, start_at, element_at, plain_only, part_at, located_at, on_plain}
 use Rattle.storage.specs.declared.element.Element.{Element}
 use Rattle.storage.specs.declared.element.Element.TheVariants.{Absent, NotStored, Plain, Extended}
-use Rattle.storage.specs.declared.element.Located.TheVariants as located
+use Rattle.std.specs.Prelude.{Ok}
 
 -- ---- The tests of a slot
 
@@ -66,31 +64,6 @@ module _ (s : List ℕ) (p : ℕ) where
   pub start_full : (size_at s p ≡ 0 → ⊥) → start_at s p ≡ offset_at s p
   unfolding start_at
   start_full h = elim (zero? (size_at s p)) [ inl z ↦ absurd (h z) | inr m ↦ rw (start_at, m.1) ]
-
--- the two tags that have the base tag of the element without bytes
-pub base_lone : (tag : ℕ) → (tag ≡ 107 → ⊥) → (tag ≡ 16491 → ⊥) → base_tag tag ≡ lone_tag → ⊥
-unfolding base_tag
-base_lone tag h k e =
-    elim (test (ltb tag 16384)) [
-      | inl l ↦ h (sym (base_below tag (ltb-true _ _ l)) ∙ e)
-      | inr l ↦ elim (test (ltb 32767 tag)) [
-        | inl m ↦ h (sym (base_above tag (ltb-true _ _ m)) ∙ e)
-        | inr m ↦
-            let low : 16384 ≤ tag = ltb-false _ _ l in
-            let high : tag ≤ 32767 = ltb-false _ _ m in
-            let b : base_tag tag ≡ tag - 16384 = simp (base_tag, le-leb _ _ low, le-leb _ _ high) in
-            k (omega arith)
-      ]
-    ]
-
--- the second of them tells, where it is not the first
-pub lone_tag_is : (tag : ℕ) → (tag ≡ 107 → ⊥) → eqb tag 16491 ≡ eqb (base_tag tag) lone_tag
-unfolding base_tag
-lone_tag_is tag h =
-    elim (same? tag 16491) [
-      | inl e ↦ eq-eqb _ _ e ∙ sym (eq-eqb _ _ (ap base_tag e))
-      | inr k ↦ ne_eqb _ _ k ∙ sym (ne_eqb _ _ (base_lone tag h k))
-    ]
 
 -- ---- The places of slots
 
@@ -147,7 +120,7 @@ module _ (s : List ℕ) (p : ℕ) where
   unfolding element_at
   element_unstored u = rw (element_at, (unstored_is s p).1 u)
 
-  pub element_plain : IsStored s p → extended_at s p ≡ false → element_at s (hit p) ≡ Plain p (start_at s p) (size_at s p)
+  pub element_plain : IsStored s p → extended_at s p ≡ false → element_at s (hit p) ≡ Plain (part_at p (start_at s p) (size_at s p))
   unfolding element_at
   element_plain h e = rw (element_at, (stored_is s p).1 h, e)
 
@@ -158,7 +131,7 @@ module _ (s : List ℕ) (p : ℕ) where
 -- the element of a slot is one of these
 pub data KindAt (s : List ℕ) (p : ℕ) : Type 0 where
   unstored : Unstored s p → element_at s (hit p) ≡ NotStored p → KindAt s p
-  plain : IsStored s p → extended_at s p ≡ false → element_at s (hit p) ≡ Plain p (start_at s p) (size_at s p) → KindAt s p
+  plain : IsStored s p → extended_at s p ≡ false → element_at s (hit p) ≡ Plain (part_at p (start_at s p) (size_at s p)) → KindAt s p
   extended : IsStored s p → extended_at s p ≡ true → element_at s (hit p) ≡ Extended p → KindAt s p
 
 pub kind_at : (s : List ℕ) (p : ℕ) → KindAt s p
@@ -186,22 +159,23 @@ pub record PlainAt (s : List ℕ) (h : Hit) (p offset size : ℕ) : Type 0 where
   pub starts : offset ≡ start_at s p
   pub holds : size ≡ size_at s p
 
-pub plain_at : (s : List ℕ) (h : Hit) (p offset size : ℕ) → element_at s h ≡ Plain p offset size → PlainAt s h p offset size
+pub plain_at : (s : List ℕ) (h : Hit) (p offset size : ℕ) → element_at s h ≡ Plain (part_at p offset size) → PlainAt s h p offset size
 unfolding element_at
 plain_at s miss p offset size e = let z : ◌≡◌ {A = ℕ} 0 1 = cc in absurd (omega arith)
 plain_at s (hit q) p offset size e =
     elim (kind_at s q) [
-      | unstored u f ↦ let r : NotStored q ≡ Plain p offset size = sym f ∙ e in let z : ◌≡◌ {A = ℕ} 0 1 = cc in absurd (omega arith)
-      | extended k x f ↦ let r : Extended q ≡ Plain p offset size = sym f ∙ e in let z : ◌≡◌ {A = ℕ} 0 1 = cc in absurd (omega arith)
+      | unstored u f ↦ let r : NotStored q ≡ Plain (part_at p offset size) = sym f ∙ e in let z : ◌≡◌ {A = ℕ} 0 1 = cc in absurd (omega arith)
+      | extended k x f ↦ let r : Extended q ≡ Plain (part_at p offset size) = sym f ∙ e in let z : ◌≡◌ {A = ℕ} 0 1 = cc in absurd (omega arith)
       | plain k x f ↦
-          let r : Plain q (start_at s q) (size_at s q) ≡ Plain p offset size = sym f ∙ e in
-          let same : q ≡ p = cc in
+          let r : Plain (part_at q (start_at s q) (size_at s q)) ≡ Plain (part_at p offset size) = sym f ∙ e in
+          let part : part_at q (start_at s q) (size_at s q) ≡ part_at p offset size = cc in
+          let same : q ≡ p = ap (λ x. x.slot) part in
           record {
             found = ap hit same;
             stored = rw same at k;
             plain = ap (extended_at s) (sym same) ∙ x;
-            starts = let o : start_at s q ≡ offset = cc in sym o ∙ ap (start_at s) same;
-            holds = let n : size_at s q ≡ size = cc in sym n ∙ ap (size_at s) same;
+            starts = let o : start_at s q ≡ offset = ap (λ x. x.offset) part in sym o ∙ ap (start_at s) same;
+            holds = let n : size_at s q ≡ size = ap (λ x. x.length) part in sym n ∙ ap (size_at s) same;
           }
     ]
 
@@ -212,7 +186,7 @@ extended_at_lem s (hit q) p e =
     elim (kind_at s q) [
       | unstored u f ↦ let r : NotStored q ≡ Extended p = sym f ∙ e in let z : ◌≡◌ {A = ℕ} 0 1 = cc in absurd (omega arith)
       | plain k x f ↦
-          let r : Plain q (start_at s q) (size_at s q) ≡ Extended p = sym f ∙ e in let z : ◌≡◌ {A = ℕ} 0 1 = cc in absurd (omega arith)
+          let r : Plain (part_at q (start_at s q) (size_at s q)) ≡ Extended p = sym f ∙ e in let z : ◌≡◌ {A = ℕ} 0 1 = cc in absurd (omega arith)
       | extended k x f ↦
           let r : Extended q ≡ Extended p = sym f ∙ e in let same : q ≡ p = cc in (ap hit same, rw same at k, ap (extended_at s) (sym same) ∙ x)
     ]
@@ -220,7 +194,7 @@ extended_at_lem s (hit q) p e =
 -- in an image that opens its part of the image is whole
 pub record FoundPlain (s : List ℕ) (tag ref p offset size : ℕ) : Type 0 where
   pub sound : (open_of s).number ≡ 0
-  pub is : element_at s (find s tag ref) ≡ Plain p offset size
+  pub is : element_at s (find s tag ref) ≡ Plain (part_at p offset size)
   pub found : find s tag ref ≡ hit p
   pub stored : IsStored s p
   pub plain : extended_at s p ≡ false
@@ -230,7 +204,7 @@ pub record FoundPlain (s : List ℕ) (tag ref p offset size : ℕ) : Type 0 wher
   pub content : part s offset size ≡ content_at s p
   pub long : length (part s offset size) ≡ size
 
-pub found_plain : (s : List ℕ) (tag ref p offset size : ℕ) → (open_of s).number ≡ 0 → element_at s (find s tag ref) ≡ Plain p offset size → FoundPlain s tag ref p offset size
+pub found_plain : (s : List ℕ) (tag ref p offset size : ℕ) → (open_of s).number ≡ 0 → element_at s (find s tag ref) ≡ Plain (part_at p offset size) → FoundPlain s tag ref p offset size
 found_plain s tag ref p offset size sound e =
     let l = plain_at s (find s tag ref) p offset size e in
     let m = found_named s tag ref p l.found in
@@ -250,23 +224,16 @@ found_plain s tag ref p offset size sound e =
 
 -- ---- What a call that reads plain storage alone makes of it
 
-pub located_element : (x : Element) (p offset size : ℕ) → plain_only x ≡ located.Plain p offset size → x ≡ Plain p offset size
+pub located_element : (x : Element) (p offset size : ℕ) → plain_only x ≡ Ok (part_at p offset size) → x ≡ Plain (part_at p offset size)
 located_element Absent p offset size e = let z : ◌≡◌ {A = ℕ} 0 1 = cc in absurd (omega arith)
 located_element (NotStored q) p offset size e = let z : ◌≡◌ {A = ℕ} 0 1 = cc in absurd (omega arith)
-located_element (Plain q o n) p offset size e = cc
+located_element (Plain x) p offset size e = let same : x ≡ part_at p offset size = cc in ap Plain same
 located_element (Extended q) p offset size e = let z : ◌≡◌ {A = ℕ} 0 1 = cc in absurd (omega arith)
-
--- no refusal has the number 0
-pub located_positive : (x : Element) (r : Refusal) → plain_only x ≡ located.Refused r → r.number ≡ 0 → ⊥
-located_positive Absent r e z = suc-ne-zero 10 (ap (λ l. (refusal_in l).number) e ∙ z)
-located_positive (NotStored p) r e z = suc-ne-zero 28 (ap (λ l. (refusal_in l).number) e ∙ z)
-located_positive (Plain p o n) r e z = let q : ◌≡◌ {A = ℕ} 0 1 = cc in omega arith
-located_positive (Extended p) r e z = suc-ne-zero 11 (ap (λ l. (refusal_in l).number) e ∙ z)
 
 -- a call that is not refused found an element in plain storage
 pub plain_passed : (k : ℕ) (answer : ℕ → ℕ → ℕ → Answer) (x : Element) → (on_plain k answer (plain_only x)).number ≡ 0
-    → (p : ℕ) × (offset : ℕ) × (size : ℕ) × (x ≡ Plain p offset size)
+    → (p : ℕ) × (offset : ℕ) × (size : ℕ) × (x ≡ Plain (part_at p offset size))
 plain_passed k answer Absent e = absurd (suc-ne-zero 10 e)
 plain_passed k answer (NotStored p) e = absurd (suc-ne-zero 28 e)
-plain_passed k answer (Plain p offset size) e = (p, offset, size, refl)
+plain_passed k answer (Plain x) e = (x.slot, x.offset, x.length, refl)
 plain_passed k answer (Extended p) e = absurd (suc-ne-zero 11 e)

@@ -14,11 +14,10 @@ use Rattle.answer.specs.Search.{In, Pairwise}
 use Rattle.answer.proofs.Tests.{test, not_both, same?, in_left, in_right, in_snoc}
 use Rattle.answer.proofs.Search.{passed, pass, any_none}
 use Rattle.storage.specs.Tables.{linked_at, is_there, linked_bytes, next_table, block_ref, link_fault, table_fault, never_written, linked_block_fault, block_bytes}
-use Rattle.storage.specs.Elements.{bytes_at}
+use Rattle.storage.specs.Elements.{Located, bytes_at}
 use Rattle.storage.specs.Walks.{share, blocks_from, tables_from, chain_of}
 use Rattle.storage.specs.Given.{entries_of, block_refs, given, left_after, Holds, Sound, Chained, Complete}
-use Rattle.storage.specs.declared.element.Located.{Located}
-use Rattle.storage.specs.declared.element.Located.TheVariants.{Plain, Refused}
+use Rattle.std.specs.Prelude.{Ok, Err}
 use Rattle.storage.specs.declared.description.Description.{Description}
 use Rattle.storage.proofs.Tables.{unwritten_sound, unwritten_gives, written_fault, written_gives}
 use Rattle.storage.proofs.Walks.{share_less, blocks_none, blocks_full, blocks_fault, blocks_next, then_stops, then_goes, tables_full, tables_many, tables_fault, tables_next, tables_finish}
@@ -162,8 +161,8 @@ kept_table s d before ref fresh whole =
     (pass _ _ _ (there (linked_at s ref) whole) (pass _ _ _ (le-leb (2 + 2 * d.entries) (length (linked_bytes s ref)) whole) refl))
   where
     there : (h : Located) → 2 + 2 * d.entries ≤ length (bytes_at s h) → is_there h ≡ true
-    there (Plain p offset size) w = refl
-    there (Refused r) w = absurd (omega arith)
+    there (Ok x) w = refl
+    there (Err r) w = absurd (omega arith)
 
 abbrev Apart : ℕ → ℕ → Type 0
 Apart t u = t ≡ u → ⊥

@@ -20,3 +20,4 @@ pub mod LayoutClaims
 pub mod SizeClaims
 pub mod UnstoredClaims
 pub mod Cases
+pub mod Mapped

@@ -16,17 +16,15 @@ use Rattle.directory.specs.Slots.{size_at}
 use Rattle.directory.specs.Opening.{open_of}
 use Rattle.directory.proofs.Named.{found_named}
 use Rattle.storage.specs.Limits.{linked_tag}
-use Rattle.storage.specs.Elements.{start_at, plain_only}
+use Rattle.storage.specs.Elements.{Located, start_at, plain_only}
 use Rattle.storage.specs.Tables.{linked_at, is_there, next_of, tables_after, link_fault, never_written}
 use Rattle.storage.specs.Walks.{chain_of}
 use Rattle.storage.specs.Links.{table_at, block_at, taken, LinkSlot, New, SoundTable, Unwritten, SoundBlock, Unbroken, ReachesTable, ReachesBlock, TableLoop, Broken, no_table, short_table, no_block, short_block, table_loop}
-use Rattle.storage.specs.Steps.{There}
-use Rattle.storage.specs.declared.element.Located.{Located}
-use Rattle.storage.specs.declared.element.Located.TheVariants.{Plain, Refused}
+use Rattle.std.specs.Prelude.{Ok, Err}
 use Rattle.storage.specs.declared.description.Description.{Description}
 use Rattle.storage.proofs.Elements.{found_plain, located_element}
 use Rattle.storage.proofs.Named.{named_plain}
-use Rattle.storage.proofs.Tables.{linked_zero, linked_find, linked_there, link_absent, link_short, link_none, unwritten_sound, written_fault, table_twice, table_fresh}
+use Rattle.storage.proofs.Tables.{There, linked_zero, linked_find, linked_there, link_absent, link_short, link_none, unwritten_sound, written_fault, table_twice, table_fresh}
 use Rattle.storage.proofs.Indices
 
 module _ (s : List ℕ) (opens : (open_of s).number ≡ 0) where
@@ -49,13 +47,13 @@ module _ (s : List ℕ) (opens : (open_of s).number ≡ 0) where
       none_there e p l = false≢true (sym e ∙ (slot_there ref p l).there)
 
       go : (x : Located) → linked_at s ref ≡ x → Lookup ref
-      go (Refused r) e = none (none_there (ap is_there e)) (ap is_there e)
-      go (Plain p offset size) e =
+      go (Err r) e = none (none_there (ap is_there e)) (ap is_there e)
+      go (Ok x) e =
           elim (same? ref 0) [
             | inl z ↦ let gone = ap is_there (linked_zero s ref z) in none (none_there gone) gone
             | inr z ↦
-                let f = found_plain s linked_tag ref p offset size opens (located_element _ _ _ _ (sym (linked_find s ref z) ∙ e)) in
-                at p (record { named = found_named s linked_tag ref p f.found; stored = f.stored; plain = f.plain; not_zero = z })
+                let f = found_plain s linked_tag ref x.slot x.offset x.length opens (located_element _ _ _ _ (sym (linked_find s ref z) ∙ e)) in
+                at x.slot (record { named = found_named s linked_tag ref x.slot f.found; stored = f.stored; plain = f.plain; not_zero = z })
           ]
 
   -- what its fault is, of which so many bytes are needed
@@ -66,10 +64,10 @@ module _ (s : List ℕ) (opens : (open_of s).number ≡ 0) where
 
   module _ (ref count absent short : ℕ) where
     sound_number : (p : ℕ) → LinkSlot s ref p → count ≤ size_at s p → link_fault s ref count absent short ≡ 0
-    sound_number p l h = link_none s ref count absent short (start_at s p) (size_at s p) (slot_there ref p l) h
+    sound_number p l h = let w = slot_there ref p l in link_none s ref count absent short w.there (omega (arith, w.holds))
 
     cut_number : (p : ℕ) → LinkSlot s ref p → size_at s p < count → link_fault s ref count absent short ≡ short
-    cut_number p l h = link_short s ref count absent short (start_at s p) (size_at s p) (slot_there ref p l) h
+    cut_number p l h = let w = slot_there ref p l in link_short s ref count absent short w.there (omega (arith, w.holds))
 
     missing_number : ((p : ℕ) → LinkSlot s ref p → ⊥) → link_fault s ref count absent short ≡ absent
     missing_number h = elim (look ref) [ at p l ↦ absurd (h p l) | none n e ↦ link_absent s ref count absent short e ]

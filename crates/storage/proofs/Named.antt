@@ -11,7 +11,7 @@ use Rattle.directory.specs.Lookup.{find}
 use Rattle.directory.specs.Rules.{Unstored, IsStored}
 use Rattle.directory.specs.Named.{Named}
 use Rattle.directory.proofs.Named.{found_named, named_found}
-use Rattle.storage.specs.Elements.{extended_at, start_at, element_at}
+use Rattle.storage.specs.Elements.{part_at, extended_at, start_at, element_at}
 use Rattle.storage.specs.declared.element.Element.TheVariants.{Absent, NotStored, Plain, Extended}
 use Rattle.storage.proofs.Elements.{element_unstored, element_plain, element_extended, unstored, plain, extended, kind_at}
 
@@ -29,7 +29,7 @@ absent_named s tag ref opens e p n =
     let at : element_at s (hit p) ≡ Absent = ap (element_at s) (sym (named_found s tag ref p opens n)) ∙ e in
     elim (kind_at s p) [
       | unstored u k ↦ let r : NotStored p ≡ Absent = sym k ∙ at in let z : ◌≡◌ {A = ℕ} 0 1 = cc in omega arith
-      | plain h x k ↦ let r : Plain p (start_at s p) (size_at s p) ≡ Absent = sym k ∙ at in let z : ◌≡◌ {A = ℕ} 0 1 = cc in omega arith
+      | plain h x k ↦ let r : Plain (part_at p (start_at s p) (size_at s p)) ≡ Absent = sym k ∙ at in let z : ◌≡◌ {A = ℕ} 0 1 = cc in omega arith
       | extended h x k ↦ let r : Extended p ≡ Absent = sym k ∙ at in let z : ◌≡◌ {A = ℕ} 0 1 = cc in omega arith
     ]
 
@@ -40,7 +40,7 @@ module _ (s : List ℕ) (tag ref p : ℕ) (opens : (open_of s).number ≡ 0) (na
   pub named_unstored : Unstored s p → element_at s (find s tag ref) ≡ NotStored p
   named_unstored u = at_slot ∙ element_unstored s p u
 
-  pub named_plain : IsStored s p → extended_at s p ≡ false → element_at s (find s tag ref) ≡ Plain p (start_at s p) (size_at s p)
+  pub named_plain : IsStored s p → extended_at s p ≡ false → element_at s (find s tag ref) ≡ Plain (part_at p (start_at s p) (size_at s p))
   named_plain h e = at_slot ∙ element_plain s p h e
 
   pub named_extended : IsStored s p → extended_at s p ≡ true → element_at s (find s tag ref) ≡ Extended p

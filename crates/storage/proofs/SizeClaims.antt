@@ -99,8 +99,8 @@ beside s tag ref =
     go : (open_of s).number ≡ 0 → (x : Element) → element_at s (find s tag ref) ≡ x → Beside s tag ref
     go opens Absent f = neither 11 0 (suc-ne-zero 10) (size_goes s tag ref opens _ f) (Copies.copy_goes s tag ref opens _ f)
     go opens (NotStored p) f = neither 29 p (suc-ne-zero 28) (size_goes s tag ref opens _ f) (Copies.copy_goes s tag ref opens _ f)
-    go opens (Plain p offset size) f =
-        both_at p (in_place s offset size) (size_goes s tag ref opens _ f) (Copies.copy_goes s tag ref opens _ f) (λ z. absurd (z refl))
+    go opens (Plain x) f =
+        both_at x.slot (in_place s x.offset x.length) (size_goes s tag ref opens _ f) (Copies.copy_goes s tag ref opens _ f) (λ z. absurd (z refl))
     go opens (Extended p) f =
         both_at p (in_blocks s (content_at s p)) (size_goes s tag ref opens _ f) (Copies.copy_goes s tag ref opens _ f) (λ z. (chain_numbers s opens (content_at s p) p 0 z).0)
 

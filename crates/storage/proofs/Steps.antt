@@ -1,6 +1,6 @@
 -- What the loops over the blocks of a table and over the tables keep: what is left of the walk is what the walk comes to. Assumes nothing.
 use Prim.Native.Nat.{ℕ, suc, ◌+◌, ◌*◌, ◌%◌, ◌-◌, ◌<◌, ◌≤◌}
-use native.Mathlib.Nat.{suc-ne-zero, add-zero, not-suc-le-zero}
+use native.Mathlib.Nat.{suc-ne-zero, not-suc-le-zero}
 use native.Mathlib.Omega.{arith}
 use mathlib.Core.Path.{◌≡◌, refl, sym, ap, ◌∙◌}
 use mathlib.Core.List.{List, [], ◌∷◌, ◌++◌}
@@ -20,9 +20,13 @@ use Rattle.marks.specs.Marks.{marked, with_mark}
 use Rattle.marks.proofs.Marks.{mark_length, own_mark, mark_kept}
 use Rattle.storage.specs.Tables.{next_of, table_after, tables_after, linked_bytes, next_table, block_ref, table_fault, linked_block_fault, block_bytes}
 use Rattle.storage.specs.Walks.{share, Walk, breaks, joined, and_then, blocks_from, tables_from, chain_of}
-use Rattle.storage.specs.Steps.{next_fault, Marked, Took}
+use Rattle.std.specs.Prelude.{Ok, Err}
+use Rattle.answer.specs.Refusals.{number_of}
+use Rattle.answer.specs.declared.refusals.Rule.{Rule}
+use Rattle.answer.proofs.Answer.{number_positive}
+use Rattle.storage.specs.Steps.{next_fault, Marked, Took, Followed}
 use Rattle.storage.specs.declared.description.Description.{Description}
-use Rattle.storage.specs.declared.linked.Walked.{Walked}
+use Rattle.storage.specs.declared.linked.Broken.{Broken}
 use Rattle.storage.proofs.Tables.{next_many, next_few}
 use Rattle.storage.proofs.Walks.{share_less, blocks_none, blocks_full, blocks_fault, blocks_next, block_passed, blocks_total, then_stops, then_goes, tables_full, tables_many, tables_fault, tables_next}
 
@@ -43,43 +47,35 @@ pub record Taking (s : List ℕ) (d : Description) (t : List ℕ) (first missing
   pub bytes : put out (d.length - left) (blocks_from s d t (d.entries - entry) entry (first + entry) left).bytes
       ≡ put out₀ (d.length - missing) (blocks_from s d t d.entries 0 first missing).bytes
 
-pub taking_start : (s : List ℕ) (d : Description) (t : List ℕ) (first missing : ℕ) (out : List ℕ) → missing ≤ d.length → Taking s d t first missing out 0 missing out
-taking_start s d t first missing out h =
-    let all : d.entries - 0 ≡ d.entries = omega arith in
-    let e : blocks_from s d t (d.entries - 0) 0 (first + 0) missing ≡ blocks_from s d t d.entries 0 first missing =
-    ap (λ k. blocks_from s d t k 0 (first + 0) missing) all ∙ ap (λ i. blocks_from s d t d.entries 0 i missing) (add-zero first) in
-    record { upto = omega arith; less = h; long = refl; fault = ap (λ w. w.fault) e; index = ap (λ w. w.index) e; rest = ap (λ w. w.left) e; bytes = ap (λ w. put out (d.length - missing) w.bytes) e }
-
 module _ (s : List ℕ) (d : Description) (t : List ℕ) (first missing : ℕ) (out₀ : List ℕ) (entry left : ℕ) (out : List ℕ) (w : Taking s d t first missing out₀ entry left out) where
   -- where the walk stops
-  stopped : (f i : ℕ) → blocks_from s d t (d.entries - entry) entry (first + entry) left ≡ breaks f i left
-      → Took (blocks_from s d t d.entries 0 first missing) (d.length - missing) out₀ out (record { left = left; fault = f; index = i })
-  stopped f i e =
-      record {
-        left = ap (λ v. v.left) (sym e) ∙ w.rest;
-        fault = ap (λ v. v.fault) (sym e) ∙ w.fault;
-        index = ap (λ v. v.index) (sym e) ∙ w.index;
-        leaves = sym (put_none out (d.length - left)) ∙ ap (λ v. put out (d.length - left) v.bytes) (sym e) ∙ w.bytes;
-      }
+  kept_blocks : (f i : ℕ) → blocks_from s d t (d.entries - entry) entry (first + entry) left ≡ breaks f i left → out ≡ put out₀ (d.length - missing) (blocks_from s d t d.entries 0 first missing).bytes
+  kept_blocks f i e = sym (put_none out (d.length - left)) ∙ ap (λ v. put out (d.length - left) v.bytes) (sym e) ∙ w.bytes
 
-  pub taken_all : d.entries ≤ entry → Took (blocks_from s d t d.entries 0 first missing) (d.length - missing) out₀ out (record { left = left; fault = 0; index = 0 })
+  stopped : blocks_from s d t (d.entries - entry) entry (first + entry) left ≡ breaks 0 0 left
+      → Took (blocks_from s d t d.entries 0 first missing) (d.length - missing) out₀ out (Ok left)
+  stopped e = (sym w.fault ∙ ap (λ v. v.fault) e, sym w.rest ∙ ap (λ v. v.left) e, kept_blocks 0 0 e)
+
+  pub taken_all : d.entries ≤ entry → Took (blocks_from s d t d.entries 0 first missing) (d.length - missing) out₀ out (Ok left)
   taken_all h =
       let z : d.entries - entry ≡ 0 = omega arith in
-      stopped 0 0 (ap (λ k. blocks_from s d t k entry (first + entry) left) z ∙ blocks_none s d t entry (first + entry) left)
+      stopped (ap (λ k. blocks_from s d t k entry (first + entry) left) z ∙ blocks_none s d t entry (first + entry) left)
 
-  pub taken_enough : left ≡ 0 → Took (blocks_from s d t d.entries 0 first missing) (d.length - missing) out₀ out (record { left = left; fault = 0; index = 0 })
-  taken_enough z = stopped 0 0 (blocks_full s d t entry (first + entry) left (d.entries - entry) z)
+  pub taken_enough : left ≡ 0 → Took (blocks_from s d t d.entries 0 first missing) (d.length - missing) out₀ out (Ok left)
+  taken_enough z = stopped (blocks_full s d t entry (first + entry) left (d.entries - entry) z)
 
   module _ (more : entry < d.entries) (missed : left ≡ 0 → ⊥) where
     fuel : d.entries - entry ≡ suc (d.entries - (entry + 1))
     fuel = omega arith
 
-    pub taken_fault : (n : ℕ) → n ≡ linked_block_fault s d.sparse (block_ref t entry) (share d (first + entry) left) → (n ≡ 0 → ⊥)
-        → Took (blocks_from s d t d.entries 0 first missing) (d.length - missing) out₀ out (record { left = left; fault = n; index = first + entry })
-    taken_fault n e z =
-        stopped n (first + entry) (ap (λ k. blocks_from s d t k entry (first + entry) left) fuel
-        ∙ blocks_fault s d t entry (first + entry) left (d.entries - (entry + 1)) missed (λ q. z (e ∙ q))
-        ∙ ap (λ m. breaks m (first + entry) left) (sym e))
+    pub taken_fault : (r : Rule) → linked_block_fault s d.sparse (block_ref t entry) (share d (first + entry) left) ≡ number_of r
+        → Took (blocks_from s d t d.entries 0 first missing) (d.length - missing) out₀ out (Err (record { rule = r; index = first + entry }))
+    taken_fault r e =
+        let stops : blocks_from s d t (d.entries - entry) entry (first + entry) left ≡ breaks (number_of r) (first + entry) left =
+        ap (λ k. blocks_from s d t k entry (first + entry) left) fuel
+        ∙ blocks_fault s d t entry (first + entry) left (d.entries - (entry + 1)) missed (λ q. number_positive r (sym e ∙ q))
+        ∙ ap (λ m. breaks m (first + entry) left) e in
+        ((sym w.fault ∙ ap (λ v. v.fault) stops, sym w.index ∙ ap (λ v. v.index) stops), kept_blocks _ _ stops)
 
     module _ (good : linked_block_fault s d.sparse (block_ref t entry) (share d (first + entry) left) ≡ 0) where
       gives : List ℕ
@@ -168,40 +164,36 @@ following_start s d marks out h =
 
 module _ (s : List ℕ) (d : Description) (out₀ : List ℕ) (marks : List ℕ) (count ref index left : ℕ) (out : List ℕ) (w : Following s d out₀ marks count ref index left out) where
   -- where the walk stops
-  ended : (f i : ℕ) → tables_from s d (256 - count) (tables_after s count d.table) ref index left ≡ breaks f i left
-      → Took (chain_of s d) 0 out₀ out (record { left = left; fault = f; index = i })
-  ended f i e =
-      record {
-        left = ap (λ v. v.left) (sym e) ∙ w.rest;
-        fault = ap (λ v. v.fault) (sym e) ∙ w.fault;
-        index = ap (λ v. v.index) (sym e) ∙ w.spot;
-        leaves = sym (put_none out (d.length - left)) ∙ ap (λ v. put out (d.length - left) v.bytes) (sym e) ∙ w.bytes;
-      }
+  kept_tables : (f i : ℕ) → tables_from s d (256 - count) (tables_after s count d.table) ref index left ≡ breaks f i left → out ≡ put out₀ 0 (chain_of s d).bytes
+  kept_tables f i e = sym (put_none out (d.length - left)) ∙ ap (λ v. put out (d.length - left) v.bytes) (sym e) ∙ w.bytes
 
-  pub followed_all : left ≡ 0 → Took (chain_of s d) 0 out₀ out (record { left = left; fault = 0; index = 0 })
-  followed_all z = ended 0 0 (tables_full s d (tables_after s count d.table) ref index left (256 - count) z)
+  pub followed_all : left ≡ 0 → Followed (chain_of s d) out₀ out (Ok tt)
+  followed_all z =
+      let e = tables_full s d (tables_after s count d.table) ref index left (256 - count) z in
+      (sym w.fault ∙ ap (λ v. v.fault) e, kept_tables 0 0 e)
 
   module _ (missed : left ≡ 0 → ⊥) where
     -- the index of a table is the number of those before it
-    fault_ends : (n : ℕ) → (n ≡ 0 → ⊥) → tables_from s d (256 - count) (tables_after s count d.table) ref index left ≡ breaks n (length (tables_after s count d.table)) left
-        → Took (chain_of s d) 0 out₀ out (record { left = left; fault = n; index = count })
-    fault_ends n z e = ended n count (e ∙ ap (λ i. breaks n i left) (length_links (next_of s) count d.table))
+    fault_ends : (r : Rule) → tables_from s d (256 - count) (tables_after s count d.table) ref index left ≡ breaks (number_of r) (length (tables_after s count d.table)) left
+        → Followed (chain_of s d) out₀ out (Err (record { rule = r; index = count }))
+    fault_ends r e =
+        ((sym w.fault ∙ ap (λ v. v.fault) e, sym w.spot ∙ ap (λ v. v.index) e ∙ length_links (next_of s) count d.table), kept_tables _ _ e)
 
     -- the table breaks a rule
-    pub followed_fault : (n : ℕ) → n ≡ next_fault s d count ref → (n ≡ 0 → ⊥) → Took (chain_of s d) 0 out₀ out (record { left = left; fault = n; index = count })
-    followed_fault n e z =
+    pub followed_fault : (r : Rule) → next_fault s d count ref ≡ number_of r → Followed (chain_of s d) out₀ out (Err (record { rule = r; index = count }))
+    followed_fault r e =
         elim (same? count 256) [
           | inl m ↦
               let none : 256 - count ≡ 0 = omega arith in
-              fault_ends n z (ap (λ k. tables_from s d k (tables_after s count d.table) ref index left) none
+              fault_ends r (ap (λ k. tables_from s d k (tables_after s count d.table) ref index left) none
               ∙ tables_many s d (tables_after s count d.table) ref index left missed
-              ∙ ap (λ f. breaks f (length (tables_after s count d.table)) left) (sym (e ∙ next_many s d count ref m)))
+              ∙ ap (λ f. breaks f (length (tables_after s count d.table)) left) (sym (next_many s d count ref m) ∙ e))
           | inr m ↦
-              let f : n ≡ table_fault s d (tables_after s count d.table) ref = e ∙ next_few s d count ref m in
+              let f : table_fault s d (tables_after s count d.table) ref ≡ number_of r = sym (next_few s d count ref m) ∙ e in
               let some : 256 - count ≡ suc (256 - (count + 1)) = omega (arith, w.few) in
-              fault_ends n z (ap (λ k. tables_from s d k (tables_after s count d.table) ref index left) some
-              ∙ tables_fault s d (tables_after s count d.table) ref index left missed (256 - (count + 1)) (λ q. z (f ∙ q))
-              ∙ ap (λ g. breaks g (length (tables_after s count d.table)) left) (sym f))
+              fault_ends r (ap (λ k. tables_from s d k (tables_after s count d.table) ref index left) some
+              ∙ tables_fault s d (tables_after s count d.table) ref index left missed (256 - (count + 1)) (λ q. number_positive r (sym f ∙ q))
+              ∙ ap (λ g. breaks g (length (tables_after s count d.table)) left) f)
         ]
 
     -- it breaks none
@@ -216,7 +208,7 @@ module _ (s : List ℕ) (d : Description) (out₀ : List ℕ) (marks : List ℕ)
       fuel_left = omega (arith, fewer)
 
       -- a table without fault: what its blocks come to, and what is left of the walk after it
-      module _ (after : List ℕ) (r : Walked) (took : Took (blocks_from s d (linked_bytes s ref) d.entries 0 index left) (d.length - left) out after r) where
+      module _ (after : List ℕ) where
         onward : Walk
         onward = tables_from s d (256 - (count + 1)) (tables_after s count d.table ++ (ref ∷ [])) (next_table (linked_bytes s ref)) (index + d.entries) (blocks_from s d (linked_bytes s ref) d.entries 0 index left).left
 
@@ -226,40 +218,38 @@ module _ (s : List ℕ) (d : Description) (out₀ : List ℕ) (marks : List ℕ)
             ap (λ k. tables_from s d k (tables_after s count d.table) ref index left) fuel_left
             ∙ tables_next s d (tables_after s count d.table) ref index left missed (256 - (count + 1)) good
 
-        pub followed_broken : (r.fault ≡ 0 → ⊥) → Took (chain_of s d) 0 out₀ after r
-        followed_broken z =
+        pub followed_broken : (b : Broken) → Took (blocks_from s d (linked_bytes s ref) d.entries 0 index left) (d.length - left) out after (Err b)
+            → Followed (chain_of s d) out₀ after (Err b)
+        followed_broken b took =
             let v = blocks_from s d (linked_bytes s ref) d.entries 0 index left in
-            let e = here ∙ then_stops v onward (λ q. z (took.fault ∙ q)) in
-            record {
-              left = took.left ∙ ap (λ x. x.left) (sym e) ∙ w.rest;
-              fault = took.fault ∙ ap (λ x. x.fault) (sym e) ∙ w.fault;
-              index = took.index ∙ ap (λ x. x.index) (sym e) ∙ w.spot;
-              leaves = took.leaves ∙ ap (λ x. put out (d.length - left) x.bytes) (sym e) ∙ w.bytes;
-            }
+            let e = here ∙ then_stops v onward (λ q. number_positive b.rule (sym took.0.0 ∙ q)) in (
+              (sym w.fault ∙ ap (λ x. x.fault) e ∙ took.0.0, sym w.spot ∙ ap (λ x. x.index) e ∙ took.0.1),
+              took.1 ∙ ap (λ x. put out (d.length - left) x.bytes) (sym e) ∙ w.bytes,
+            )
 
-        pub following_next : r.fault ≡ 0 → d.entries < 4294967296
-            → Following s d out₀ (with_mark marks (ref % 251)) (count + 1) (next_table (linked_bytes s ref)) (index + d.entries) r.left after
+        pub following_next : (rest : ℕ) → Took (blocks_from s d (linked_bytes s ref) d.entries 0 index left) (d.length - left) out after (Ok rest) → d.entries < 4294967296
+            → Following s d out₀ (with_mark marks (ref % 251)) (count + 1) (next_table (linked_bytes s ref)) (index + d.entries) rest after
         unfolding onward
-        following_next z small =
+        following_next rest took small =
             let v = blocks_from s d (linked_bytes s ref) d.entries 0 index left in
-            let e = here ∙ then_goes v onward (sym took.fault ∙ z) in
-            let kept : tables_after s (count + 1) d.table ≡ tables_after s count d.table ++ (ref ∷ []) = links_snoc (next_of s) count d.table ∙ ap (λ r. tables_after s count d.table ++ (r ∷ [])) w.here in
-            let q : tables_from s d (256 - (count + 1)) (tables_after s (count + 1) d.table) (next_table (linked_bytes s ref)) (index + d.entries) r.left ≡ onward = rw (kept, took.left) in
+            let e = here ∙ then_goes v onward took.0 in
+            let more : tables_after s (count + 1) d.table ≡ tables_after s count d.table ++ (ref ∷ []) = links_snoc (next_of s) count d.table ∙ ap (λ r. tables_after s count d.table ++ (r ∷ [])) w.here in
+            let q : tables_from s d (256 - (count + 1)) (tables_after s (count + 1) d.table) (next_table (linked_bytes s ref)) (index + d.entries) rest ≡ onward = rw (more, ← took.1) in
             let total = blocks_total s d (linked_bytes s ref) d.entries 0 index left in
-            let at : d.length - r.left ≡ d.length - left + length v.bytes = omega (arith, w.less, took.left) in
+            let at : d.length - rest ≡ d.length - left + length v.bytes = omega (arith, w.less, took.1) in
             record {
               few = omega (arith, fewer);
               marked = marked_more s d.table count marks w.marked ref w.here;
               here = link_next (next_of s) count d.table ∙ ap (next_of s) w.here;
               low = omega (arith, w.low);
-              less = omega (arith, w.less, took.left);
-              long = ap length took.leaves ∙ length_put out (d.length - left) v.bytes ∙ w.long;
+              less = omega (arith, w.less, took.1);
+              long = ap length took.2 ∙ length_put out (d.length - left) v.bytes ∙ w.long;
               fault = ap (λ x. x.fault) q ∙ ap (λ x. x.fault) (sym e) ∙ w.fault;
               spot = ap (λ x. x.index) q ∙ ap (λ x. x.index) (sym e) ∙ w.spot;
               rest = ap (λ x. x.left) q ∙ ap (λ x. x.left) (sym e) ∙ w.rest;
               bytes =
-                  ap (λ x. put after (d.length - r.left) x.bytes) q
-                  ∙ ap (λ o. put o (d.length - r.left) onward.bytes) took.leaves
+                  ap (λ x. put after (d.length - rest) x.bytes) q
+                  ∙ ap (λ o. put o (d.length - rest) onward.bytes) took.2
                   ∙ ap (λ a. put (put out (d.length - left) v.bytes) a onward.bytes) at
                   ∙ put_put out (d.length - left) v.bytes onward.bytes
                   ∙ ap (λ x. put out (d.length - left) x.bytes) (sym e)

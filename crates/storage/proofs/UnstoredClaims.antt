@@ -24,7 +24,7 @@ use Rattle.directory.proofs.Faults.{open_below}
 use Rattle.directory.proofs.Opens.{opened_goes, opened_stops}
 use Rattle.directory.proofs.Named.{found_named, named_once}
 use Rattle.directory.proofs.Claims.{opens_as_before, all_stored_before}
-use Rattle.storage.specs.Elements.{extended_at, start_at, element_at, plain_only, located_at}
+use Rattle.storage.specs.Elements.{part_at, Located, extended_at, start_at, element_at, plain_only, located_at}
 use Rattle.storage.specs.Views.{view_at, view_of}
 use Rattle.storage.specs.Sizes.{size_found, size_of}
 use Rattle.storage.specs.Descriptions.{description_of}
@@ -35,7 +35,6 @@ use Rattle.storage.specs.Links.{table_at, block_at, copy_rules, LinkSlot, New, U
 use Rattle.storage.specs.Before.{start_before, element_before, content_before, linked_before}
 use Rattle.storage.specs.declared.element.Element.{Element}
 use Rattle.storage.specs.declared.element.Element.TheVariants.{Absent, NotStored, Plain, Extended}
-use Rattle.storage.specs.declared.element.Located.{Located}
 use Rattle.storage.proofs.Elements.{unstored, plain, extended, kind_at, element_plain, element_extended}
 use Rattle.storage.proofs.Named.{named_absent, absent_named, named_unstored}
 use Rattle.storage.proofs.Descriptions.{record_early}
@@ -61,7 +60,7 @@ pair_unstored s tag ref p opens = (go (find s tag ref) refl, λ h. named_unstore
           | unstored u k ↦
               let r : NotStored q ≡ NotStored p = sym k ∙ e in
               let same : q ≡ p = cc in (rw same at (found_named s tag ref q f), rw same at u)
-          | plain h x k ↦ let r : Plain q (start_at s q) (size_at s q) ≡ NotStored p = sym k ∙ e in let z : ◌≡◌ {A = ℕ} 0 1 = cc in absurd (omega arith)
+          | plain h x k ↦ let r : Plain (part_at q (start_at s q) (size_at s q)) ≡ NotStored p = sym k ∙ e in let z : ◌≡◌ {A = ℕ} 0 1 = cc in absurd (omega arith)
           | extended h x k ↦ let r : Extended q ≡ NotStored p = sym k ∙ e in let z : ◌≡◌ {A = ℕ} 0 1 = cc in absurd (omega arith)
         ]
 
@@ -69,12 +68,12 @@ pair_unstored s tag ref p opens = (go (find s tag ref) refl, λ h. named_unstore
 
 -- a call that opens an image and goes on to what a pair is there: 29 at such a slot, and for no other element
 module _ (k : ℕ) (s : List ℕ) (tag ref : ℕ) (answer : Element → Answer) (marked : (p : ℕ) → answer (NotStored p) ≡ refuse k 29 p)
-    (absent : (answer Absent).number ≡ 29 → ⊥) (in_plain : (p offset size : ℕ) → (answer (Plain p offset size)).number ≡ 29 → ⊥)
+    (absent : (answer Absent).number ≡ 29 → ⊥) (in_plain : (p offset size : ℕ) → (answer (Plain (part_at p offset size))).number ≡ 29 → ⊥)
     (in_extended : (open_of s).number ≡ 0 → (p : ℕ) → (answer (Extended p)).number ≡ 29 → ⊥) where
   at_element : (open_of s).number ≡ 0 → (x : Element) (p : ℕ) → answer x ≡ refuse k 29 p → x ≡ NotStored p
   at_element opens Absent p e = absurd (absent (ap (λ a. a.number) e))
   at_element opens (NotStored q) p e = ap (λ a. NotStored a.place) (sym (marked q) ∙ e)
-  at_element opens (Plain q offset size) p e = absurd (in_plain q offset size (ap (λ a. a.number) e))
+  at_element opens (Plain x) p e = absurd (in_plain x.slot x.offset x.length (ap (λ a. a.number) e))
   at_element opens (Extended q) p e = absurd (in_extended opens q (ap (λ a. a.number) e))
 
   answers_29 : (p : ℕ) → (opened k s (answer (element_at s (find s tag ref))) ≡ refuse k 29 p) ↔ NamedUnstored s tag ref p
@@ -141,7 +140,7 @@ choose_unstored s t tag ref p = (
     part_29 : (which : ℕ) (x : Element) → part_in which (plain_only x) ≡ refuse 3 29 p → x ≡ NotStored p
     part_29 which Absent e = absurd (omega (arith, ap (λ a. a.number) e))
     part_29 which (NotStored q) e = ap (λ a. NotStored a.place) e
-    part_29 which (Plain q offset size) e = absurd (omega (arith, ap (λ a. a.number) e))
+    part_29 which (Plain x) e = absurd (omega (arith, ap (λ a. a.number) e))
     part_29 which (Extended q) e = absurd (omega (arith, ap (λ a. a.number) e))
 
     current : (open_of s).number ≡ 0 → (open_of t).number ≡ 0 → choose_of s t tag ref ≡ refuse 3 29 p → (x : Element) → element_at s (find s tag ref) ≡ x
@@ -150,7 +149,7 @@ choose_unstored s t tag ref p = (
         let u = (pair_unstored t tag ref p other).0 (part_29 2 _ (sym (Choices.choose_fallback s t tag ref opens other _ f refl _ refl) ∙ e)) in
         inr (absent_named s tag ref opens f, u.0, u.1)
     current opens other e (NotStored q) f = inl ((pair_unstored s tag ref p opens).0 (f ∙ part_29 1 _ (sym (Choices.choose_current s t tag ref opens other _ f refl) ∙ e)))
-    current opens other e (Plain q offset size) f = inl ((pair_unstored s tag ref p opens).0 (f ∙ part_29 1 _ (sym (Choices.choose_current s t tag ref opens other _ f refl) ∙ e)))
+    current opens other e (Plain x) f = inl ((pair_unstored s tag ref p opens).0 (f ∙ part_29 1 _ (sym (Choices.choose_current s t tag ref opens other _ f refl) ∙ e)))
     current opens other e (Extended q) f = inl ((pair_unstored s tag ref p opens).0 (f ∙ part_29 1 _ (sym (Choices.choose_current s t tag ref opens other _ f refl) ∙ e)))
 
 -- ---- Tables and blocks
@@ -186,7 +185,7 @@ module _ (s bs : List ℕ) (before : OpenedBefore s bs) where
       let h = stored p refl in
       elim (test (extended_at s p)) [
         | inl x ↦ element_extended s p h x ∙ sym (rw (element_before, x))
-        | inr x ↦ element_plain s p h x ∙ ap₂ (Plain p) (start_same p h) (stored_size s p h) ∙ sym (rw (element_before, x))
+        | inr x ↦ element_plain s p h x ∙ ap₂ (λ o n. Plain (part_at p o n)) (start_same p h) (stored_size s p h) ∙ sym (rw (element_before, x))
       ]
 
   -- a pair names what it named: every call that reads an element goes on from there

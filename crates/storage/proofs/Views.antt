@@ -1,21 +1,19 @@
 -- A view's answer from what is found, and that it names bytes inside the image. Assumes nothing.
 use Prim.Native.Nat.{ℕ}
-use mathlib.Core.Path.{◌≡◌, sym, ap, ◌∙◌}
-use mathlib.Core.Logic.{inl, inr}
+use mathlib.Core.Path.{◌≡◌, refl, sym, ap, ◌∙◌}
 use mathlib.Core.List.{List, [], ◌∷◌}
 use lib.ListN.{get_or}
 use Rattle.answer.specs.Answer.{Answer, grant, refusal}
 use Rattle.answer.specs.declared.Refusal.{Refusal}
-use Rattle.answer.proofs.Tests.{zero?}
 use Rattle.wire.specs.Numbers.{part}
 use Rattle.directory.specs.Opening.{open_of}
 use Rattle.directory.specs.Lookup.{find, find_in}
 use Rattle.directory.specs.Steps.Opens.{Opens}
 use Rattle.directory.proofs.Opens.{opened_goes, opened_passed}
-use Rattle.storage.specs.Elements.{element_at, plain_only, located_at}
-use Rattle.storage.specs.Views.{view_at, view_of, bytes_of}
+use Rattle.storage.specs.Elements.{part_at, Located, element_at, plain_only, located_at}
+use Rattle.std.specs.Prelude.{Ok, Err}
+use Rattle.storage.specs.Views.{viewed_numbers, view_at, view_of, bytes_of}
 use Rattle.storage.specs.declared.element.Element.{Element}
-use Rattle.storage.specs.declared.element.Located.{Located}
 use Rattle.storage.specs.declared.element.Element.TheVariants.{Plain}
 use Rattle.storage.proofs.Elements.{FoundPlain, found_plain, plain_passed, located_opened}
 
@@ -24,9 +22,13 @@ unfolding view_of
 view_goes s tag ref sound x e = opened_goes 2 s _ sound ∙ ap (λ y. view_at (plain_only y)) e
 
 -- the same of what was located in a chain of blocks
-pub view_opened : (s : List ℕ) (blocks tag ref : ℕ) → Opens s blocks → (l : Located) → l ≡ located_at s (find_in s blocks tag ref) → (m : Located) → l ≡ m → view_at m ≡ view_of s tag ref
+pub view_opened : (s : List ℕ) (blocks tag ref : ℕ) → Opens s blocks → (l : Located) → l ≡ located_at s (find_in s blocks tag ref) → viewed_numbers l ≡ view_of s tag ref
 unfolding view_of
-view_opened s blocks tag ref o l is m e = ap view_at (sym e ∙ is ∙ located_opened s blocks tag ref o) ∙ sym (opened_goes 2 s _ o.sound)
+view_opened s blocks tag ref o l is = told l ∙ ap view_at (is ∙ located_opened s blocks tag ref o) ∙ sym (opened_goes 2 s _ o.sound)
+  where
+    told : (m : Located) → viewed_numbers m ≡ view_at m
+    told (Ok x) = refl
+    told (Err r) = refl
 
 -- a view that is granted found a plain element, and answers where it stands
 pub granted_view : (s : List ℕ) (tag ref offset size : ℕ) → view_of s tag ref ≡ grant (offset ∷ size ∷ []) → (p : ℕ) × FoundPlain s tag ref p offset size
@@ -38,7 +40,7 @@ granted_view s tag ref offset size e =
     let q = sym e ∙ view_goes s tag ref sound _ f.3 in
     let o : offset ≡ f.1 = ap (λ a. get_or a.values 0 0) q in
     let n : size ≡ f.2 = ap (λ a. get_or a.values 1 0) q in
-    let same : Plain f.0 f.1 f.2 ≡ Plain f.0 offset size = cc in
+    let same : Plain (part_at f.0 f.1 f.2) ≡ Plain (part_at f.0 offset size) = cc in
     (f.0, found_plain s tag ref f.0 offset size sound (f.3 ∙ same))
 
 -- ---- The bytes that an answer names
@@ -49,4 +51,4 @@ bytes_granted s answer offset size e = rw e
 
 pub bytes_refused : (s : List ℕ) (answer : Answer) (r : Refusal) → answer ≡ refusal 2 r → bytes_of s answer ≡ []
 unfolding bytes_of part
-bytes_refused s answer r e = elim (zero? r.number) [ inl z ↦ rw (e, z) | inr m ↦ rw (e, m.1) ]
+bytes_refused s answer r e = rw e

@@ -1,5 +1,5 @@
 -- A walk over linked blocks and tables, step by step, and how many bytes it gives. Assumes nothing.
-use Prim.Native.Nat.{ℕ, zero, suc, ◌+◌, ◌-◌, ◌≤◌, min}
+use Prim.Native.Nat.{ℕ, zero, suc, ◌+◌, ◌-◌, ◌≤◌}
 use native.Mathlib.Nat.{suc-ne-zero}
 use native.Mathlib.Omega.{arith}
 use mathlib.Core.Path.{◌≡◌, refl, sym, ap, ◌∙◌}
@@ -17,15 +17,6 @@ use Rattle.storage.specs.declared.description.Description.{Description}
 use Rattle.storage.proofs.Tables.{unwritten_gives, written_fault, written_gives}
 
 -- ---- One block further
-
-pub share_first : (d : Description) (index left : ℕ) → index ≡ 0 → share d index left ≡ min d.first left
-unfolding share
-share_first d index left e = ap (λ i. share d i left) e
-
-pub share_later : (d : Description) (index left : ℕ) → (index ≡ 0 → ⊥) → share d index left ≡ min d.block left
-unfolding share
-share_later d zero left z = absurd (z refl)
-share_later d (suc index) left z = refl
 
 pub share_less : (d : Description) (index left : ℕ) → share d index left ≤ left
 unfolding share

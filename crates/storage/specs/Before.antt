@@ -8,7 +8,7 @@ use Rattle.wire.specs.Numbers.{be, part}
 use Rattle.directory.specs.Slots.{offset_at}
 use Rattle.directory.specs.Lookup.{find}
 use Rattle.directory.specs.Before.{size_before}
-use Rattle.storage.specs.Elements.{extended_at, plain_only}
+use Rattle.storage.specs.Elements.{part_at, extended_at, Located, plain_only}
 use Rattle.storage.specs.Tables.{linked_bytes, next_table, block_ref, link_fault, table_fault}
 use Rattle.storage.specs.Descriptions.{full_description}
 use Rattle.storage.specs.Walks.{share, Walk, ends, breaks, joined, and_then}
@@ -16,7 +16,6 @@ use Rattle.storage.specs.Copies.{Stored, of_walk}
 use Rattle.storage.specs.declared.description.Description.{Description}
 use Rattle.storage.specs.declared.element.Element.{Element}
 use Rattle.storage.specs.declared.element.Element.TheVariants.{Absent, Plain, Extended}
-use Rattle.storage.specs.declared.element.Located.{Located}
 
 -- ---- Request (iii)
 
@@ -74,7 +73,7 @@ unfoldable pub start_before : List ℕ → ℕ → ℕ
 start_before s p = elim (size_before s p) [ zero ↦ 0 | suc n ↦ offset_at s p ]
 
 unfoldable pub element_before : List ℕ → Hit → Element
-element_before s (hit p) = elim (extended_at s p) [ false ↦ Plain p (start_before s p) (size_before s p) | true ↦ Extended p ]
+element_before s (hit p) = elim (extended_at s p) [ false ↦ Plain (part_at p (start_before s p) (size_before s p)) | true ↦ Extended p ]
 element_before s miss = Absent
 
 unfoldable pub content_before : List ℕ → ℕ → List ℕ

@@ -1,21 +1,21 @@
 -- An element's part of one of two images, after document 01, "Reading elements": its today's file is the current image here, its standing
 -- file the fallback. Assumes nothing.
-use Rattle.std.specs.Prelude.{ℕ, zero, suc, true, false, List, [], ◌∷◌, get_or}
+use Rattle.std.specs.Prelude.{ℕ, zero, suc, true, false, List, [], ◌∷◌, get_or, Result, Ok, Err}
 use Rattle.answer.specs.Answer.{Answer, grant, refusal}
 use Rattle.wire.specs.Numbers.{part}
 use Rattle.directory.specs.Opening.{opened}
 use Rattle.directory.specs.Lookup.{find}
-use Rattle.storage.specs.Elements.{element_at, is_absent, plain_only, on_plain}
+use Rattle.answer.specs.declared.Refusal.{Refusal}
+use Rattle.storage.specs.Elements.{Located, element_at, is_absent, plain_only, on_plain}
 use Rattle.storage.specs.declared.element.Element.{Element}
-use Rattle.storage.specs.declared.element.Located.{Located}
 use Rattle.storage.specs.declared.choose.Chosen.{Chosen}
-use Rattle.storage.specs.declared.choose.Chosen.TheVariants.{Current, Fallback, Refused}
+use Rattle.storage.specs.declared.choose.Chosen.TheVariants.{Current, Fallback}
 
 -- which image (1 the current one, 2 the fallback), the offset and the length
-abbrev pub chosen_numbers : Chosen → Answer
-chosen_numbers (Current offset size) = grant (1 ∷ offset ∷ size ∷ [])
-chosen_numbers (Fallback offset size) = grant (2 ∷ offset ∷ size ∷ [])
-chosen_numbers (Refused r) = refusal 3 r
+abbrev pub chosen_numbers : Result Chosen Refusal → Answer
+chosen_numbers (Ok (Current x)) = grant (1 ∷ x.offset ∷ x.length ∷ [])
+chosen_numbers (Ok (Fallback x)) = grant (2 ∷ x.offset ∷ x.length ∷ [])
+chosen_numbers (Err r) = refusal 3 r
 
 -- the part in one image
 abbrev pub part_in : ℕ → Located → Answer

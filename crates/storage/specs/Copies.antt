@@ -1,6 +1,6 @@
 -- Copying an element's bytes to the front of a lent buffer, after document 01, "Reading elements", and requests (i), (iii) and (vii) of
 -- document 02. Assumes nothing.
-use Rattle.std.specs.Prelude.{ℕ, List, [], ◌∷◌, true, false, ◌&&◌, length, get_or, leb}
+use Rattle.std.specs.Prelude.{ℕ, List, [], ◌∷◌, true, false, ◌&&◌, length, get_or, leb, Result, Ok, Err}
 use Rattle.answer.specs.Refusals.{ABSENT, NO_TABLE, TABLE_LOOP, NOT_STORED}
 use Rattle.answer.specs.Answer.{Answer, grant, refuse, carrying, unless, unless_carrying, in_room}
 use Rattle.answer.specs.Lent.{laid_over}
@@ -13,13 +13,12 @@ use Rattle.storage.specs.Descriptions.{description_of, record_length, record_fau
 use Rattle.storage.specs.Walks.{Walk, chain_of}
 use Rattle.storage.specs.declared.element.Element.{Element}
 use Rattle.storage.specs.declared.element.Element.TheVariants.{Absent, NotStored, Plain, Extended}
-use Rattle.storage.specs.declared.copy.Copied.{Copied}
-use Rattle.storage.specs.declared.copy.Copied.TheVariants as copied
+use Rattle.answer.specs.declared.Carrying.{Carrying}
 
 -- a copy answers the number of bytes, and a refusal carries the index of the table or block that is broken
-abbrev pub copied_numbers : Copied → Answer
-copied_numbers (copied.Bytes n) = grant (n ∷ 0 ∷ [])
-copied_numbers (copied.Refused r) = carrying 1 r
+abbrev pub copied_numbers : Result ℕ Carrying → Answer
+copied_numbers (Ok n) = grant (n ∷ 0 ∷ [])
+copied_numbers (Err r) = carrying 1 r
 
 -- an element by its storage: the first rule that its record breaks, how many bytes it has, the first fault of its chain and the index of the table
 -- or block that has it, and its bytes
@@ -52,7 +51,7 @@ copy_at room p x =
 abbrev pub copy_found : List ℕ → ℕ → Element → Answer
 copy_found s room Absent = refuse 2 ABSENT 0
 copy_found s room (NotStored p) = refuse 2 NOT_STORED p
-copy_found s room (Plain p offset size) = copy_at room p (in_place s offset size)
+copy_found s room (Plain x) = copy_at room x.slot (in_place s x.offset x.length)
 copy_found s room (Extended p) = copy_at room p (in_blocks s (content_at s p))
 
 unfoldable pub copy_of : List ℕ → ℕ → ℕ → ℕ → Answer
@@ -61,7 +60,7 @@ copy_of s tag ref room = opened 2 s (copy_found s room (element_at s (find s tag
 abbrev pub bytes_found : List ℕ → Element → List ℕ
 bytes_found s Absent = []
 bytes_found s (NotStored p) = []
-bytes_found s (Plain p offset size) = (in_place s offset size).bytes
+bytes_found s (Plain x) = (in_place s x.offset x.length).bytes
 bytes_found s (Extended p) = (in_blocks s (content_at s p)).bytes
 
 -- the bytes of an element

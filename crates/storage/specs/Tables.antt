@@ -1,16 +1,14 @@
 -- The tables and blocks of an element in linked blocks, after document 01, "Reading elements", and requests (i) and (iii) of
 -- document 02. Assumes nothing.
-use Rattle.std.specs.Prelude.{ℕ, ◌+◌, ◌*◌, List, Bool, true, false, not, ◌&&◌, length, take, replicate, leb, eqb}
+use Rattle.std.specs.Prelude.{ℕ, ◌+◌, ◌*◌, List, Bool, true, false, not, ◌&&◌, length, take, replicate, leb, eqb, Ok, Err}
 use Rattle.answer.specs.Refusals.{NO_TABLE, SHORT_TABLE, NO_BLOCK, SHORT_BLOCK, TABLE_LOOP}
 use Rattle.answer.specs.Search.{must, any}
 use Rattle.answer.specs.Links.{link_after, links_after}
 use Rattle.wire.specs.Numbers.{be}
 use Rattle.directory.specs.Lookup.{find}
 use Rattle.storage.specs.Limits.{linked_tag}
-use Rattle.storage.specs.Elements.{plain_only, located_at, bytes_at}
+use Rattle.storage.specs.Elements.{Located, plain_only, located_at, bytes_at}
 use Rattle.storage.specs.declared.element.Element.TheVariants.{Absent}
-use Rattle.storage.specs.declared.element.Located.{Located}
-use Rattle.storage.specs.declared.element.Located.TheVariants.{Plain, Refused}
 use Rattle.storage.specs.declared.description.Description.{Description}
 
 -- the table or block with a reference: the element of tag 20 and that reference, which must be in plain storage; a reference of 0 names none
@@ -18,8 +16,8 @@ unfoldable pub linked_at : List ℕ → ℕ → Located
 linked_at s ref = elim (eqb ref 0) [ true ↦ plain_only Absent | false ↦ located_at s (find s linked_tag ref) ]
 
 abbrev pub is_there : Located → Bool
-is_there (Plain p offset size) = true
-is_there (Refused r) = false
+is_there (Ok x) = true
+is_there (Err r) = false
 
 -- the bytes of a table or a block
 unfoldable pub linked_bytes : List ℕ → ℕ → List ℕ

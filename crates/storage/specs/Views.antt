@@ -1,18 +1,15 @@
 -- A view of an element: its own part of the image, and where that stands, after document 01, "Reading elements". Assumes nothing.
-use Rattle.std.specs.Prelude.{ℕ, List, [], ◌∷◌, get_or}
+use Rattle.std.specs.Prelude.{ℕ, List, [], ◌∷◌, get_or, Ok, Err}
 use Rattle.answer.specs.Answer.{Answer, grant, refusal}
 use Rattle.wire.specs.Numbers.{part}
 use Rattle.directory.specs.Opening.{opened}
 use Rattle.directory.specs.Lookup.{find}
-use Rattle.storage.specs.Elements.{located_at, on_plain}
-use Rattle.storage.specs.declared.element.Located.{Located}
-use Rattle.storage.specs.declared.view.Viewed.{Viewed}
-use Rattle.storage.specs.declared.view.Viewed.TheVariants.{Part, Refused}
+use Rattle.storage.specs.Elements.{Located, located_at, on_plain}
 
 -- a view answers the offset and the length
-abbrev pub viewed_numbers : Viewed → Answer
-viewed_numbers (Part offset size) = grant (offset ∷ size ∷ [])
-viewed_numbers (Refused r) = refusal 2 r
+abbrev pub viewed_numbers : Located → Answer
+viewed_numbers (Ok x) = grant (x.offset ∷ x.length ∷ [])
+viewed_numbers (Err r) = refusal 2 r
 
 abbrev pub view_at : Located → Answer
 view_at l = on_plain 2 (λ p offset size. grant (offset ∷ size ∷ [])) l

@@ -1,9 +1,12 @@
 // The record of an element in linked blocks, in one of two layouts that its length tells apart: the sparse one and the full one.
+#![tactic(auto, unfolding(crate::specs::Descriptions::sparse_fault, crate::specs::Descriptions::full_fault, crate::specs::Descriptions::other_fault, crate::specs::Descriptions::record_fault, crate::specs::Descriptions::record_length, answer::specs::Search::must))]
+
 ghost use Rattle.std.specs.Prelude.{◌≡◌};
+ghost use Rattle.answer.specs.Refusals.{fault_of};
 ghost use Rattle.storage.specs.Descriptions.{sparse_fault, full_fault, other_fault, record_fault, record_length};
 
 use super::format::{FULL_RECORD_BYTES, KIND_BYTES, LINKED_KIND, SPARSE_RECORD_BYTES};
-use answer::refusals::{CHAIN, STORAGE};
+use answer::refusals::Rule;
 
 // What both layouts are read into: how many bytes the element has, its first block and each later one, how many blocks a table has, the
 // reference of the first table, and whether blocks may never have been written.
@@ -17,68 +20,54 @@ pub struct Description {
     pub sparse: bool,
 }
 
-// The number of the first rule that a sparse record breaks, 0 where it breaks none.
-fn sparse_fault(bytes: &[u8]) -> usize
-    ensures { result ≡ sparse_fault bytes.now }
+// The rules of a sparse record.
+fn check_sparse(bytes: &[u8]) -> Result<(), Rule>
+    ensures { fault_of result ≡ sparse_fault bytes.now }
 {
     if wire::read16(bytes, 0) != LINKED_KIND {
-        return STORAGE;
+        return Err(Rule::Storage);
     }
-    if wire::read32(bytes, 6) == 0 {
-        return CHAIN;
+    if wire::read32(bytes, 6) == 0 || wire::read32(bytes, 10) == 0 {
+        return Err(Rule::Chain);
     }
-    if wire::read32(bytes, 10) == 0 {
-        return CHAIN;
-    }
-    0
+    Ok(())
 }
 
-// The same of a full one.
-fn full_fault(bytes: &[u8]) -> usize
-    ensures { result ≡ full_fault bytes.now }
+// Those of a full one.
+fn check_full(bytes: &[u8]) -> Result<(), Rule>
+    ensures { fault_of result ≡ full_fault bytes.now }
 {
     if wire::read32(bytes, 0) != LINKED_KIND {
-        return STORAGE;
+        return Err(Rule::Storage);
     }
-    if wire::read32(bytes, 8) == 0 {
-        return CHAIN;
+    if wire::read32(bytes, 8) == 0 || wire::read32(bytes, 12) == 0 || wire::read32(bytes, 16) == 0 {
+        return Err(Rule::Chain);
     }
-    if wire::read32(bytes, 12) == 0 {
-        return CHAIN;
-    }
-    if wire::read32(bytes, 16) == 0 {
-        return CHAIN;
-    }
-    0
+    Ok(())
 }
 
-// The number of bytes that have the length of neither: of another kind, or a record of linked blocks that is not whole.
-fn other_fault(bytes: &[u8]) -> usize
-    ensures { result ≡ other_fault bytes.now }
+// Bytes that have the length of neither are refused: of another kind, or a record of linked blocks that is not whole.
+fn check_other(bytes: &[u8]) -> Result<(), Rule>
+    ensures { fault_of result ≡ other_fault bytes.now }
 {
-    if bytes.len() < KIND_BYTES {
-        return CHAIN;
+    if bytes.len() < KIND_BYTES
+        || wire::read16(bytes, 0) == LINKED_KIND
+        || wire::read32(bytes, 0) == LINKED_KIND
+    {
+        return Err(Rule::Chain);
     }
-    if wire::read16(bytes, 0) == LINKED_KIND {
-        return CHAIN;
-    }
-    if wire::read32(bytes, 0) == LINKED_KIND {
-        return CHAIN;
-    }
-    STORAGE
+    Err(Rule::Storage)
 }
 
-// The number of the first rule that the bytes of an extended element break as a record, 0 where they break none.
-pub(crate) fn record_fault(bytes: &[u8]) -> usize
-    ensures { result ≡ record_fault bytes.now }
+// The rules of the bytes of an extended element as a record.
+pub(crate) fn check(bytes: &[u8]) -> Result<(), Rule>
+    ensures { fault_of result ≡ record_fault bytes.now }
 {
-    if bytes.len() == SPARSE_RECORD_BYTES {
-        return sparse_fault(bytes);
+    match bytes.len() {
+        SPARSE_RECORD_BYTES => check_sparse(bytes),
+        FULL_RECORD_BYTES => check_full(bytes),
+        _ => check_other(bytes),
     }
-    if bytes.len() == FULL_RECORD_BYTES {
-        return full_fault(bytes);
-    }
-    other_fault(bytes)
 }
 
 // How many bytes the element has, by its record.

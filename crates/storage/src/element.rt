@@ -1,4 +1,6 @@
 // The one way to an element: what a tag and a reference name in an image, by the number of its blocks.
+#![tactic(auto, using(crate::proofs::Elements::content_part), unfolding(directory::specs::Slots::base_tag, directory::specs::Slots::unstored_at, directory::specs::Slots::size_at, crate::specs::Elements::extended_at, crate::specs::Elements::start_at, crate::specs::Elements::element_at))]
+
 ghost use Rattle.std.specs.Prelude.{◌≡◌, ◌≤◌, eqb};
 ghost use Rattle.answer.specs.Search.{hit};
 ghost use Rattle.directory.specs.Limits.{lone_tag};
@@ -6,38 +8,40 @@ ghost use Rattle.directory.specs.Lookup.{find_in};
 ghost use Rattle.directory.specs.Slots.{base_tag, unstored_at, size_at, content_at, tag_at};
 ghost use Rattle.directory.specs.Rules.{IsStored};
 ghost use Rattle.directory.specs.Steps.Cursors.{most_place};
-ghost use Rattle.storage.specs.Elements.{extended_at, start_at, element_at, is_absent, plain_only, located_at, refusal_in};
+ghost use Rattle.storage.specs.Elements.{extended_at, start_at, element_at, plain_only, located_at};
 ghost use Rattle.storage.specs.Tables.{is_there};
+ghost use Rattle.wire.specs.Numbers.{part};
 
 use super::format::EXTENDED_LONE;
 use answer::Refusal;
-use answer::refusals::{ABSENT, NOT_STORED, STORAGE};
-use directory::Found;
+use answer::refusals::Rule;
 use directory::format::{ALL_ONES, EXTENDED_FIRST, EXTENDED_LAST, LONE};
 
-// Nothing; an element that is named and not stored yet, with the place of its slot; one in plain storage, with its slot and where its bytes
-// stand; or one in extended storage, with its slot.
-#[derive(Clone, Copy)]
+// An element in plain storage: its slot, and where its bytes stand in the image.
+#[derive(Clone, Copy, PartialEq, Eq)]
+pub struct Part {
+    pub slot: usize,
+    pub offset: usize,
+    pub length: usize,
+}
+
+impl Part {
+    // Its bytes in the image.
+    pub(crate) fn bytes(self, image: &[u8]) -> &[u8]
+        ensures { result.now ≡ part image.now self.offset self.length }
+    {
+        wire::part(image, self.offset, self.length)
+    }
+}
+
+// Nothing; an element that is named and not stored yet, with the place of its slot; one in plain storage; or one in extended storage, with its
+// slot.
+#[derive(Clone, Copy, PartialEq, Eq)]
 pub enum Element {
     Absent,
     NotStored(usize),
-    Plain {
-        slot: usize,
-        offset: usize,
-        length: usize,
-    },
+    Plain(Part),
     Extended(usize),
-}
-
-// An element in plain storage, or why a call that reads no other refuses it.
-#[derive(Clone, Copy)]
-pub enum Located {
-    Plain {
-        slot: usize,
-        offset: usize,
-        length: usize,
-    },
-    Refused(Refusal),
 }
 
 // Whether the slot at p has an extended tag.
@@ -45,10 +49,7 @@ fn is_extended(image: &[u8], p: usize) -> bool
     ensures { result ≡ extended_at image.now p }
 {
     let tag = wire::read16(image, p);
-    if tag < EXTENDED_FIRST {
-        return false;
-    }
-    tag <= EXTENDED_LAST
+    EXTENDED_FIRST <= tag && tag <= EXTENDED_LAST
 }
 
 // Whether the slot at p has the base tag whose element is empty.
@@ -56,10 +57,7 @@ fn is_lone(image: &[u8], p: usize) -> bool
     ensures { result ≡ eqb (base_tag (tag_at image.now p)) lone_tag }
 {
     let tag = wire::read16(image, p);
-    if tag == LONE {
-        return true;
-    }
-    tag == EXTENDED_LONE
+    tag == LONE || tag == EXTENDED_LONE
 }
 
 // Whether the element of the slot at p is named and not stored yet.
@@ -67,13 +65,9 @@ fn is_unstored(image: &[u8], p: usize) -> bool
     requires { p ≤ most_place }
     ensures { result ≡ unstored_at image.now p }
 {
-    if wire::read32(image, p + 8) != ALL_ONES {
-        return false;
-    }
-    if wire::read32(image, p + 4) != ALL_ONES {
-        return false;
-    }
-    !is_lone(image, p)
+    wire::read32(image, p + 4) == ALL_ONES
+        && wire::read32(image, p + 8) == ALL_ONES
+        && !is_lone(image, p)
 }
 
 // How many bytes the element of the slot at p has, which is stored.
@@ -112,17 +106,14 @@ pub(crate) fn is_plain(image: &[u8], p: usize) -> bool
     requires { p ≤ most_place }
     ensures { result ≡ is_there (located_at image.now (hit p)) }
 {
-    if is_unstored(image, p) {
-        return false;
-    }
-    !is_extended(image, p)
+    !is_unstored(image, p) && !is_extended(image, p)
 }
 
 // What the base tag of a tag and a reference name in a chain of so many blocks.
 pub fn find(image: &[u8], blocks: usize, tag: u16, reference: u16) -> Element
     ensures { result ≡ element_at image.now (find_in image.now blocks tag reference) }
 {
-    let Found::At(slot) = directory::find_slot(image, blocks, tag, reference) else {
+    let Ok(slot) = directory::find_slot(image, blocks, tag, reference) else {
         return Element::Absent;
     };
     if is_unstored(image, slot) {
@@ -132,69 +123,30 @@ pub fn find(image: &[u8], blocks: usize, tag: u16, reference: u16) -> Element
         return Element::Extended(slot);
     }
     let length = size(image, slot);
-    Element::Plain {
+    Element::Plain(Part {
         slot,
         offset: start(image, slot, length),
         length,
-    }
+    })
 }
 
-pub(crate) fn is_absent(element: Element) -> bool
-    ensures { result ≡ is_absent element }
-{
-    match element {
-        Element::Absent => true,
-        Element::NotStored(_) => false,
-        Element::Plain { .. } => false,
-        Element::Extended(_) => false,
-    }
-}
-
-// An element for a call that reads plain storage alone.
-pub fn plain(element: Element) -> Located
-    ensures { result ≡ plain_only element }
-{
-    match element {
-        Element::Absent => Located::Refused(Refusal {
-            number: ABSENT,
-            place: 0,
-        }),
-        Element::NotStored(slot) => Located::Refused(Refusal {
-            number: NOT_STORED,
-            place: slot,
-        }),
-        Element::Plain {
-            slot,
-            offset,
-            length,
-        } => Located::Plain {
-            slot,
-            offset,
-            length,
-        },
-        Element::Extended(slot) => Located::Refused(Refusal {
-            number: STORAGE,
-            place: slot,
-        }),
+impl Element {
+    // For a call that reads plain storage alone: the element, or why it is refused.
+    pub fn plain(self) -> Result<Part, Refusal>
+        ensures { result ≡ plain_only self }
+    {
+        match self {
+            Element::Absent => Err(Rule::Absent.at(0)),
+            Element::NotStored(slot) => Err(Rule::NotStored.at(slot)),
+            Element::Plain(part) => Ok(part),
+            Element::Extended(slot) => Err(Rule::Storage.at(slot)),
+        }
     }
 }
 
 // The element of a tag and a reference for such a call.
-pub fn locate(image: &[u8], blocks: usize, tag: u16, reference: u16) -> Located
+pub fn locate(image: &[u8], blocks: usize, tag: u16, reference: u16) -> Result<Part, Refusal>
     ensures { result ≡ plain_only (element_at image.now (find_in image.now blocks tag reference)) }
 {
-    plain(find(image, blocks, tag, reference))
-}
-
-// The refusal of an element that was not located.
-pub fn refusal_of(located: Located) -> Refusal
-    ensures { result ≡ refusal_in located }
-{
-    match located {
-        Located::Plain { .. } => Refusal {
-            number: 0,
-            place: 0,
-        },
-        Located::Refused(r) => r,
-    }
+    find(image, blocks, tag, reference).plain()
 }

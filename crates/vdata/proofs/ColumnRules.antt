@@ -110,7 +110,7 @@ module _ (s : List ℕ) (ref i c room : ℕ) where
       let bytes = plain_bytes s head_tag ref from.slot from.found from.stored from.plain in
       let g = content_passes 2 s head_tag ref head_fault (λ at e. column_after s e values i c room) from.slot x.opens from.found from.stored from.plain (ap head_fault (sym bytes) ∙ x.sound) in
       let inside : field_fault (head_in e) (field_at e (head_in e) i) i c ≡ 0 =
-      rw (head_is e) (field_passes (placed e) (field_at e (placed e) i) i c x.field_there _ refl x.component_there) in
+      rw (head_is e) (field_passes (placed e) (field_at e (placed e) i) i c x.field_there x.component_there) in
       let given : (records_of e ≡ 0) ⊎ Given s ref i room e x.opens (records_of e) = elim x.given [
         | inl z ↦ inl z
         | inr (whole, m) ↦ inr (whole.values, whole.long, m)

@@ -1,39 +1,40 @@
 -- A column of a Vdata: where its values lie, the loop that puts them into a list, and the answer case by case. Assumes nothing.
 use Prim.Native.Nat.{ℕ, zero, suc, ◌+◌, ◌*◌, ◌-◌, ◌<◌, ◌≤◌}
-use native.Mathlib.Nat.{suc-ne-zero, suc-mul, zero-mul, add-zero, mul-le-mul_right, pow-le-pow_right}
+use native.Mathlib.Nat.{suc-mul, zero-mul, add-zero, pow-le-pow_right}
 use native.Mathlib.Numerals.{add-one}
 use native.Mathlib.Omega.{arith}
-use mathlib.Core.Path.{◌≡◌, refl, sym, ap, ◌∙◌, subst}
+use mathlib.Core.Path.{◌≡◌, refl, sym, ap, ◌∙◌}
 use mathlib.Core.Logic.{inl, inr}
 use mathlib.Core.List.{List, [], ◌∷◌}
-use lib.ListN.{length, get_or, set, length-set}
+use lib.ListN.{length, get_or, set}
 use lib.Dec.{leb}
 use lib.Seq.{sets}
 use borrow.Author.Tests.{le-leb, lt-leb}
-use Rattle.answer.specs.Refusals.{RECORD, SMALL}
+use Rattle.answer.specs.Refusals.{RECORD}
 use Rattle.answer.specs.Answer.{Answer, grant, refuse, refusal, in_room}
 use Rattle.answer.specs.Search.{Hit}
 use Rattle.answer.specs.Lent.{Does}
 use Rattle.answer.specs.declared.Refusal.{Refusal}
 use Rattle.answer.proofs.Tests.{zero?}
 use Rattle.answer.proofs.Search.{must_holds, must_fails}
-use Rattle.answer.proofs.Answer.{refusal_is, unless_passes, unless_stops, in_room_enough, in_room_short}
+use Rattle.answer.proofs.Answer.{number_positive, refusal_is, unless_passes, unless_stops, in_room_enough, in_room_short}
 use Rattle.answer.proofs.Lent.{refuses, grants}
 use Rattle.wire.specs.Numbers.{part, ReadsIn}
 use Rattle.wire.specs.declared.ByteOrder.{ByteOrder}
 use Rattle.directory.specs.Lookup.{find, find_in}
 use Rattle.directory.specs.Steps.Opens.{Opens}
 use Rattle.directory.proofs.Opens.{opened_goes, opened_find}
-use Rattle.storage.specs.Elements.{located_at, refusal_in}
-use Rattle.storage.specs.declared.element.Located.{Located}
-use Rattle.storage.specs.declared.element.Located.TheVariants as located
-use Rattle.records.specs.Types.{types, base_type, byte_order_of, width_of, kind_of}
+use Rattle.std.specs.Prelude.{Ok, Err}
+use Rattle.answer.specs.Refusals.{number_of}
+use Rattle.answer.specs.declared.refusals.Rule.{Rule}
+use Rattle.answer.specs.declared.refusals.Rule.TheVariants as rule
+use Rattle.storage.specs.Elements.{Located, located_at}
+use Rattle.storage.specs.declared.element.Part.{Part}
+use Rattle.records.specs.Types.{byte_order_of, width_of, kind_of}
 use Rattle.records.specs.Readings.{record_at, record_bytes}
-use Rattle.records.proofs.Types.{row_is}
-use Rattle.records.proofs.Readings.{reads_refusal, reads_broken, reads_passed, reads_bytes, reads_positive, reads_list}
+use Rattle.records.proofs.Readings.{reads_refusal, reads_broken, reads_passed, reads_bytes, reads_list}
 use Rattle.vhead.specs.Limits.{head_tag}
 use Rattle.vhead.specs.Heads.{head_in, head_fault, field_at, fields_of, fields_fault}
-use Rattle.vhead.specs.Steps.{Narrow}
 use Rattle.vhead.specs.declared.field.Numbers.{Numbers}
 use Rattle.vhead.specs.declared.head.Head.{Head}
 use Rattle.vhead.proofs.HeadsRead.{head_passed}
@@ -42,8 +43,9 @@ use Rattle.vdata.specs.Limits.{values_tag}
 use Rattle.vdata.specs.Patterns.{value_by, value_at, value_bits, type_kind}
 use Rattle.vdata.specs.Values.{field_fault, place_of, values_fault, value_in}
 use Rattle.vdata.specs.Columns.{column_from, column_in, column_given, column_after, column_found, column_of, column_bits}
-use Rattle.vdata.specs.Steps.{step_of, bits_from, extended, Splits, Fixed, AllInside}
-use Rattle.vdata.proofs.Values.{reach, small_product, place_records, place_fields, lies}
+use Rattle.vdata.specs.Steps.{step_of, bits_from, extended, Splits, AllThere}
+use Rattle.vdata.proofs.Widths.{width_low}
+use Rattle.vdata.proofs.Values.{lies}
 
 -- ---- The values of a column
 
@@ -55,14 +57,6 @@ place_step h f r c =
       | inl e ↦ rw (place_of, step_of, e) (omega (arith, suc-mul r h.record_size))
       | inr m ↦ rw (place_of, step_of, m.1) (omega (arith, suc-mul r f.size))
     ]
-
-pub step_records : (h : Head) (f : Numbers) → h.interlace ≡ 0 → h.record_size ≡ step_of h f
-unfolding step_of
-step_records h f e = rw (step_of, e)
-
-pub step_fields : (h : Head) (f : Numbers) → (h.interlace ≡ 0 → ⊥) → f.size ≡ step_of h f
-unfolding step_of
-step_fields h f z = elim (zero? h.interlace) [ inl e ↦ absurd (z e) | inr m ↦ rw (step_of, m.1) ]
 
 pub column_strides : (e v : List ℕ) (i c r n : ℕ) → let h = head_in e in let f = field_at e h i in
     column_from e v i c r n ≡ bits_from f.code v (place_of h f r c) (step_of h f) n
@@ -87,58 +81,6 @@ get_or_column e v i c r (suc n) (suc j) h =
     let k : suc r + j ≡ r + suc j = omega arith in
     get_or_column e v i c (suc r) n j (omega arith) ∙ ap (λ k. value_bits (value_in e v k i c)) k
 
--- ---- The widths of types
-
-width_fixed : (code : ℕ) → 1 ≤ width_of code → Fixed (width_of code)
-unfolding width_of
-width_fixed code =
-    row_is (λ r. 1 ≤ r.width → Fixed r.width) (base_type code) types (
-      (λ q l. inl refl),
-      (
-        (λ q l. inl refl),
-        (
-          (λ q l. inl refl),
-          (
-            (λ q l. inl refl),
-            (
-              (λ q l. inr (inl refl)),
-              (
-                (λ q l. inr (inl refl)),
-                (
-                  (λ q l. inr (inr (inl refl))),
-                  ((λ q l. inr (inr (inl refl))), ((λ q l. inr (inr (inl refl))), ((λ q l. inr (inr (inr refl))), λ l. absurd (omega arith)))),
-                ),
-              ),
-            ),
-          ),
-        ),
-      ),
-    )
-
--- one that is not 1, 2 or 4 is 8
-pub width_last : (width : ℕ) → Fixed width → (width ≡ 1 → ⊥) → (width ≡ 2 → ⊥) → (width ≡ 4 → ⊥) → width ≡ 8
-width_last width (inl e) a b c = absurd (a e)
-width_last width (inr (inl e)) a b c = absurd (b e)
-width_last width (inr (inr (inl e))) a b c = absurd (c e)
-width_last width (inr (inr (inr e))) a b c = e
-
-pub width_eight : (code width : ℕ) → width ≡ width_of code → 1 ≤ width_of code → (width ≡ 1 → ⊥) → (width ≡ 2 → ⊥) → (width ≡ 4 → ⊥) → width ≡ 8
-width_eight code width w known = width_last width (subst Fixed (sym w) (width_fixed code known))
-
-width_low : (code : ℕ) → width_of code ≤ 8
-width_low code = elim (zero? (width_of code)) [ inl e ↦ omega arith | inr m ↦ low (width_of code) (width_fixed code (omega (arith, m.1))) ]
-  where
-    low : (width : ℕ) → Fixed width → width ≤ 8
-    low width (inl e) = omega arith
-    low width (inr (inl e)) = omega arith
-    low width (inr (inr (inl e))) = omega arith
-    low width (inr (inr (inr e))) = omega arith
-
--- what was read in an order and a width that are those asked for
-pub reads_own : (byte_order own : ByteOrder) → byte_order ≡ own → (width k : ℕ) → width ≡ k → (v : List ℕ) (at n : ℕ) → ReadsIn own k v at n
-    → ReadsIn byte_order width v at n
-reads_own byte_order own o width k w v at n r = rw (o, w) r
-
 -- ---- The loop
 
 -- a pattern that was read, and the greatest of its type that is no negative number's
@@ -158,85 +100,37 @@ module _ (code width : ℕ) (byte_order : ByteOrder) (v : List ℕ) (at n most :
   bits_read b is = is ∙ sym (splits.bits n below own.small) ∙ ap (λ m. value_bits (value_by (kind_of code) (width_of code) m)) own.is
 
 -- so many values are put into a list: those that are left, put on what is there, give the whole
-pub record Putting (code : ℕ) (v : List ℕ) (first step count : ℕ) (out₀ out : List ℕ) (at i : ℕ) : Type 0 where
-  pub upto : i ≤ count
-  pub long : length out ≡ length out₀
-  pub place : at ≡ first + i * step
-  pub left : sets out i (bits_from code v at step (count - i)) ≡ sets out₀ 0 (bits_from code v first step count)
+pub record Putting (code : ℕ) (v : List ℕ) (first step count : ℕ) (out₀ out : List ℕ) (i : ℕ) : Type 0 where
+  pub left : sets out i (bits_from code v (first + i * step) step (count - i)) ≡ sets out₀ 0 (bits_from code v first step count)
 
-module _ (code : ℕ) (v : List ℕ) (first step count : ℕ) (out₀ : List ℕ) where
-  pub putting_start : Putting code v first step count out₀ out₀ first 0
-  putting_start =
-      let z : count - 0 ≡ count = omega arith in
-      record { upto = omega arith; long = refl; place = omega (arith, zero-mul step); left = rw z }
+module _ {code : ℕ} {v : List ℕ} {first step count : ℕ} {out₀ : List ℕ} where
+  pub putting_next : {out : List ℕ} {i : ℕ} → Putting code v first step count out₀ out i → i < count → (b : ℕ) → b ≡ value_bits (value_at code v (first + i * step))
+      → Putting code v first step count out₀ (set out i b) (i + 1)
+  unfolding bits_from
+  putting_next {out} {i} w h b is =
+      let n : count - i ≡ suc (count - (i + 1)) = omega arith in
+      let f : first + i * step + step ≡ first + suc i * step = omega (arith, suc-mul i step) in
+      let l : sets out i (bits_from code v (first + i * step) step (suc (count - (i + 1)))) ≡ sets out₀ 0 (bits_from code v first step count) = rw n at w.left in
+      record { left = rw (is, add-one i) (rw (f, add-one i) at l) }
 
-  module _ (out : List ℕ) (at i : ℕ) (w : Putting code v first step count out₀ out at i) where
-    pub putting_next : i < count → (b : ℕ) → b ≡ value_bits (value_at code v at) → Putting code v first step count out₀ (set out i b) (at + step) (i + 1)
-    unfolding bits_from
-    putting_next h b is =
-        let n : count - i ≡ suc (count - (i + 1)) = omega arith in
-        let l : sets out i (bits_from code v at step (suc (count - (i + 1)))) ≡ sets out₀ 0 (bits_from code v first step count) = rw n at w.left in
-        record {
-          upto = omega arith;
-          long = length-set out i b ∙ w.long;
-          place = rw add-one (omega (arith, w.place, suc-mul i step));
-          left = rw (is, add-one i) (rw (add-one i) at l);
-        }
-
-    -- the next place is one of 64 bits
-    pub putting_fits : i < count → first + count * step < 18446744073709551616 → at + step < 18446744073709551616
-    putting_fits h low =
-        let k : (i + 1) * step ≤ count * step = mul-le-mul_right step (omega arith) in
-        let m : (i + 1) * step ≡ i * step + step = rw add-one (suc-mul i step) in
-        omega (arith, w.place)
-
-    pub putting_done : count ≤ i → out ≡ sets out₀ 0 (bits_from code v first step count)
-    unfolding bits_from
-    putting_done h = let z : count - i ≡ 0 = omega arith in rw z at w.left
-
--- with the width and the byte order that are the type's own
-pub loop_own : (code first step count long room : ℕ)
-    → (1 ≤ width_of code) × AllInside first step (width_of code) count long × (count ≤ room) × (first + count * step < 18446744073709551616)
-    → (own width : ℕ) → own ≡ width_of code → own ≡ width → (order byte_order : ByteOrder) → order ≡ byte_order_of code → order ≡ byte_order
-    → (width ≡ width_of code) × (byte_order ≡ byte_order_of code) × Fixed width × AllInside first step width count long × (count ≤ room)
-    × (first + count * step < 18446744073709551616)
-loop_own code first step count long room p own width w is order byte_order o told =
-    let same : width_of code ≡ width = sym w ∙ is in
-    (sym same, sym told ∙ o, subst Fixed same (width_fixed code p.0), subst (λ k. AllInside first step k count long) same p.1, p.2, p.3)
+  pub putting_done : {out : List ℕ} {i : ℕ} → Putting code v first step count out₀ out i → count ≤ i → out ≡ sets out₀ 0 (bits_from code v first step count)
+  unfolding bits_from
+  putting_done {out} {i} w h = let z : count - i ≡ 0 = omega arith in rw z at w.left
 
 -- ---- The places of all records
-
--- they are places of 64 bits
-pub column_fits : (h : Head) (f : Numbers) (c : ℕ) → h.records < 4294967296 → h.record_size < 65536 → Narrow f → 0 < h.records → c < f.order
-    → (first : ℕ) → first ≡ place_of h f 0 c → (step : ℕ) → step ≡ step_of h f → first + h.records * step < 18446744073709551616
-column_fits h f c a b n some there first is step is_step =
-    let x = reach h f 0 c (width_of f.code) a b n some there (width_low f.code) in
-    elim (zero? h.interlace) [
-      | inl e ↦
-          let k : step < 65536 = omega (arith, step_records h f e) in
-          omega (arith, place_records h f 0 c e, small_product h.records step a k, x.before, x.component, x.offset)
-      | inr m ↦
-          let z : h.interlace ≡ 0 → ⊥ = λ q. suc-ne-zero m.0 (sym m.1 ∙ q) in
-          let k : step < 65536 = omega (arith, step_fields h f z, n.size) in
-          omega (arith, place_fields h f 0 c z, small_product h.records step a k, x.column, x.row, x.component)
-    ]
 
 -- of a sound head, they and their bytes lie inside
 places : (h : Head) (f : Numbers) (r c : ℕ) → place_of h f r c ≡ place_of h f 0 c + r * step_of h f
 places h f zero c = omega (arith, zero-mul (step_of h f))
 places h f (suc r) c = omega (arith, places h f r c, place_step h f r c, suc-mul r (step_of h f))
 
-pub inside_same : (a b : ℕ) → a ≡ b → (s t : ℕ) → s ≡ t → (width count long : ℕ) → AllInside b t width count long → AllInside a s width count long
-inside_same a b e s t f width count long all = λ i l. rw (e, f) (all i l)
-
 pub column_sound : (e : List ℕ) → head_fault e ≡ 0 → (h : Head) → h ≡ head_in e → (i c : ℕ) (f : Numbers) → f ≡ field_at e h i → i < h.fields → c < f.order
-    → (long : ℕ) → h.records * h.record_size ≤ long
-    → (1 ≤ width_of f.code) × AllInside (place_of h f 0 c) (step_of h f) (width_of f.code) h.records long
-column_sound e sound h is i c f is_field there component long whole =
+    → (v : List ℕ) → h.records * h.record_size ≤ length v → AllThere f.code (place_of h f 0 c) (step_of h f) h.records v
+column_sound e sound h is i c f is_field there component v whole =
     let fields : fields_fault h.record_size (fields_of e h) ≡ 0 = rw is (head_passed e sound).fields in
     let typed : 1 ≤ width_of f.code = rw is_field (sound_typed h.record_size (field_at e h) h.fields i fields there) in
     let sized : Sized h.record_size f = rw is_field (sound_sized h.record_size (field_at e h) h.fields i fields there) in
-    (typed, λ r l. omega (arith, lies h f r c sized l component, places h f r c))
+    record { known = typed; inside = λ r l. omega (arith, lies h f r c sized l component, places h f r c) }
 
 -- ---- After a sound head of the bytes e
 
@@ -247,11 +141,11 @@ module _ (s e : List ℕ) (found : Hit) (i c : ℕ) (out : List ℕ) (h : Head) 
   abbrev fault : ℕ
   fault = field_fault h (field_at e h i) i c
 
-  pub column_index : (n : ℕ) → n ≡ fault → (n ≡ 0 → ⊥) → Leaves out (refusal 2 (record { number = n; place = 0 }))
+  pub column_index : (x : Rule) → number_of x ≡ fault → Leaves out (refusal 2 (record { rule = x; place = 0 }))
   unfolding column_after
-  column_index n is z =
-      let same : field_fault (head_in e) (field_at e (head_in e) i) i c ≡ n = sym (is ∙ ap (λ k. field_fault k (field_at e k i) i c) parsed) in
-      refuses _ _ out 2 _ (unless_stops 2 _ 0 _ (λ q. z (sym same ∙ q)) ∙ ap (λ k. refuse 2 k 0) same) z
+  column_index x is =
+      let same : field_fault (head_in e) (field_at e (head_in e) i) i c ≡ number_of x = sym (is ∙ ap (λ k. field_fault k (field_at e k i) i c) parsed) in
+      refuses _ _ out 2 _ (unless_stops 2 _ 0 _ (λ q. number_positive x (sym same ∙ q)) ∙ ap (λ k. refuse 2 k 0) same)
 
   module _ (inside : fault ≡ 0) (f : Numbers) (is_field : f ≡ field_at e (head_in e) i) (kind : ℕ) (is_kind : kind ≡ type_kind f.code) where
     abbrev given : ℕ → Answer
@@ -289,34 +183,31 @@ module _ (s e : List ℕ) (found : Hit) (i c : ℕ) (out : List ℕ) (h : Head) 
                 ∙ ap (λ g. with g (suc m.0) told) (sym parsed) ∙ ap (λ j. with h j told) (sym m.1) ∙ ap (with h h.records) (sym kind_told)
           ]
 
-      pub column_refused : (x : Refusal) → l ≡ located.Refused x → (y : Refusal) → y ≡ refusal_in l → Leaves out (refusal 2 y)
-      column_refused x at y taken =
-          let z = reads_positive s found l is x at y taken in
-          refuses _ _ out 2 y (onward ∙ reads_refusal 2 s found (values_fault h) answer l is x at y taken ∙ refusal_is 2 y z) z
+      pub column_refused : (x : Refusal) → l ≡ Err x → Leaves out (refusal 2 x)
+      column_refused x at = refuses _ _ out 2 x (onward ∙ reads_refusal 2 s found (values_fault h) answer l is x at ∙ refusal_is 2 x)
 
       -- the bytes v of the values
-      module _ (q o n : ℕ) (at : l ≡ located.Plain q o n) (v : List ℕ) (of : v ≡ part s o n) where
-        pub column_short : length v < h.records * h.record_size → Leaves out (refusal 2 (record { number = RECORD; place = q }))
+      module _ (x : Part) (at : l ≡ Ok x) (v : List ℕ) (of : v ≡ part s x.offset x.length) where
+        pub column_short : length v < h.records * h.record_size → Leaves out (refusal 2 (record { rule = rule.Record; place = x.slot }))
         unfolding values_fault
         column_short m =
-            let z : RECORD ≡ 0 → ⊥ = suc-ne-zero 14 in
             let broken = sym (must_fails _ RECORD 0 (lt-leb (h.records * h.record_size) (length v) m)) in
-            refuses _ _ out 2 _ (onward ∙ reads_broken 2 s found (values_fault h) answer l is q o n at v of RECORD broken z ∙ refusal_is 2 _ z) z
+            refuses _ _ out 2 (record { rule = rule.Record; place = x.slot }) (onward ∙ reads_broken 2 s found (values_fault h) answer l is x at v of rule.Record broken ∙ refusal_is 2 (record { rule = rule.Record; place = x.slot }))
 
         module _ (whole : h.records * h.record_size ≤ length v) where
-          stands : column_after s e found i c (length out) ≡ answer o v
+          stands : column_after s e found i c (length out) ≡ answer x.offset v
           unfolding values_fault
           stands =
-              onward ∙ reads_passed 2 s found (values_fault h) answer l is q o n at v of (must_holds _ RECORD 0 (le-leb (h.records * h.record_size) (length v) whole))
+              onward ∙ reads_passed 2 s found (values_fault h) answer l is x at v of (must_holds _ RECORD 0 (le-leb (h.records * h.record_size) (length v) whole))
 
-          pub column_small : length out < h.records → Leaves out (refusal 2 (record { number = SMALL; place = 0 }))
-          column_small m = refuses _ _ out 2 _ (stands ∙ in_room_short 2 _ _ (lt-leb _ _ m)) (suc-ne-zero 13)
+          pub column_small : length out < h.records → Leaves out (refusal 2 (record { rule = rule.Small; place = 0 }))
+          column_small m = refuses _ _ out 2 (record { rule = rule.Small; place = 0 }) (stands ∙ in_room_short 2 _ _ (lt-leb _ _ m))
 
           pub column_put : h.records ≤ length out → (after : List ℕ) → after ≡ sets out 0 (bits_from f.code v (place_of h f 0 c) (step_of h f) h.records)
               → Leaves after (given h.records)
           unfolding column_in
           column_put m after put =
-              let b : record_bytes s found ≡ v = reads_bytes s found l is q o n at ∙ sym of in
+              let b : record_bytes s found ≡ v = reads_bytes s found l is x at ∙ sym of in
               let all : column_in e (record_bytes s found) i c ≡ bits_from f.code v (place_of h f 0 c) (step_of h f) h.records =
               rw (b, is_field, parsed) (column_strides e v i c 0 (head_in e).records) in
               let long : length (column_in e (record_bytes s found) i c) ≤ length out =
@@ -326,25 +217,22 @@ module _ (s e : List ℕ) (found : Hit) (i c : ℕ) (out : List ℕ) (h : Head) 
 -- ---- The call, by what is found of the head
 
 module _ (s : List ℕ) (head values : Hit) (i c : ℕ) (out : List ℕ) (l : Located) (is : l ≡ located_at s head) where
-  pub read_refused : (x : Refusal) → l ≡ located.Refused x → (y : Refusal) → y ≡ refusal_in l → (given : List ℕ)
-      → Does (column_found s head values i c (length out)) given out out (refusal 2 y)
+  pub read_refused : (x : Refusal) → l ≡ Err x → (given : List ℕ) → Does (column_found s head values i c (length out)) given out out (refusal 2 x)
   unfolding column_found
-  read_refused x at y taken given =
-      let z = reads_positive s head l is x at y taken in
-      refuses _ given out 2 y (reads_refusal 2 s head head_fault _ l is x at y taken ∙ refusal_is 2 y z) z
+  read_refused x at given = refuses _ given out 2 x (reads_refusal 2 s head head_fault _ l is x at ∙ refusal_is 2 x)
 
-  module _ (p o n : ℕ) (at : l ≡ located.Plain p o n) (e : List ℕ) (of : e ≡ part s o n) where
-    pub read_broken : (m : ℕ) → m ≡ head_fault e → (m ≡ 0 → ⊥) → (given : List ℕ)
-        → Does (column_found s head values i c (length out)) given out out (refusal 2 (record { number = m; place = p }))
+  module _ (x : Part) (at : l ≡ Ok x) (e : List ℕ) (of : e ≡ part s x.offset x.length) where
+    pub read_broken : (m : Rule) → number_of m ≡ head_fault e → (given : List ℕ)
+        → Does (column_found s head values i c (length out)) given out out (refusal 2 (record { rule = m; place = x.slot }))
     unfolding column_found
-    read_broken m q z given = refuses _ given out 2 _ (reads_broken 2 s head head_fault _ l is p o n at e of m q z ∙ refusal_is 2 _ z) z
+    read_broken m q given = refuses _ given out 2 _ (reads_broken 2 s head head_fault _ l is x at e of m q ∙ refusal_is 2 _)
 
     pub read_goes : head_fault e ≡ 0 → (w after : List ℕ) (numbers : Answer) → Does (column_after s e values i c (length out)) (column_in e w i c) out after numbers
         → Does (column_found s head values i c (length out)) (column_in (record_bytes s head) w i c) out after numbers
     unfolding column_found
     read_goes z w after numbers d =
-        let b : record_bytes s head ≡ e = reads_bytes s head l is p o n at ∙ sym of in
-        let a = reads_passed 2 s head head_fault (λ at e. column_after s e values i c (length out)) l is p o n at e of z in
+        let b : record_bytes s head ≡ e = reads_bytes s head l is x at ∙ sym of in
+        let a = reads_passed 2 s head head_fault (λ at e. column_after s e values i c (length out)) l is x at e of z in
         rw (a, b) d
 
 -- in an image that was opened

@@ -1,4 +1,5 @@
 pub mod Patterns
+pub mod Widths
 pub mod Values
 pub mod Columns
 pub mod ValueRules

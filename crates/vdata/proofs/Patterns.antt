@@ -1,5 +1,5 @@
 -- Laws of the values of patterns: the pattern of a type's value, NaNs, signed numbers in 64 bits, and the bits and the kind of a value. Assumes nothing.
-use Prim.Native.Nat.{ℕ, ◌<◌, ◌≤◌, ◌*◌, ◌%◌, zero, suc, ◌+◌, ◌^◌, ◌-◌, min}
+use Prim.Native.Nat.{ℕ, ◌<◌, ◌≤◌, ◌*◌, ◌%◌, zero, suc, ◌+◌, ◌^◌, ◌-◌}
 use native.Mathlib.Omega.{arith}
 use native.Mathlib.Nat.{add-zero, mod-eq_of_lt, mul-suc, mul-add-mod_self_left}
 use mathlib.Core.Path.{◌≡◌, ◌∙◌, refl, sym, ap, subst}
@@ -11,42 +11,17 @@ use lib.Ieee.{Format, ones, hid, top, of_bits, to_bits, nan_bits, binary32, bina
 use lib.Ieee.Bits.{nan_bits_above, to_bits-of_bits, nan_bits_is}
 use lib.Dec.{ltb, leb, eqb, T}
 use lib.IntN.{pos, negsuc, ◌-ℤ◌}
-use lib.Signed.{mag}
-use mir.Syntax.{w64}
-use mir.Val.{SFits}
 use borrow.Author.Tests.{lt-ltb, le-ltb, le-leb, lt-leb, leb-true, leb-false}
-use Rattle.wire.specs.Numbers.{number_in, part, Bytes, ReadsIn}
-use Rattle.wire.specs.declared.ByteOrder.{ByteOrder}
+use Rattle.wire.specs.Numbers.{number_in, part, Bytes}
 use Rattle.wire.proofs.Numbers.{number_small, number_part}
+use Rattle.std.proofs.lemmas.Grind.{common_steps}
 use Rattle.answer.proofs.Tests.{test}
 use Rattle.records.specs.Types.{Kind, base_type, byte_order_of, width_of, kind_of, signed, unsigned, float, TypeRow, types, row_of}
-use Rattle.records.proofs.Types.{width_by, kind_by, kind_unsigned, row_is}
+use Rattle.records.proofs.Types.{width_by, kind_by, row_is}
 use Rattle.vdata.specs.Patterns.{value_by, value_at, signed_by, float32, float64, value_kind, value_bits, kind_number, type_kind}
 use Rattle.vdata.specs.Steps.{extended, Splits}
-use Rattle.vdata.specs.declared.value.Value.TheVariants.{Unsigned}
 
 -- ---- The value of a type
-
--- a number that was read in the type's width and byte order is the value's pattern
-pub pattern_read : (code width : ℕ) (byte_order : ByteOrder) (v : List ℕ) (at n : ℕ) → (width ≡ width_of code) × (width ≤ 8) → byte_order ≡ byte_order_of code
-    → ReadsIn byte_order (min width 8) v at n → ReadsIn (byte_order_of code) (width_of code) v at n
-pattern_read code width byte_order v at n w o r =
-    let k : min width 8 ≡ width = omega (arith, w.1) in
-    rw (← w.0, ← k, ← o) r
-
-module _ (code base : ℕ) (is : base ≡ base_type code) (v : List ℕ) (at n : ℕ) (r : ReadsIn (byte_order_of code) (width_of code) v at n) where
-  -- by the row of its own code
-  module _ (own : ℕ) (e : base ≡ own) where
-    pub pattern_small : n < 256 ^ (row_of own types).width
-    pattern_small = rw (← width_by code base own is e) r.small
-
-    pub row_value : value_by (row_of own types).kind (row_of own types).width n ≡ value_at code v at
-    unfolding value_at
-    row_value = rw (r.is, kind_by code base own is e, width_by code base own is e)
-
-  pub value_unsigned : (base ≡ 20 → ⊥) → (base ≡ 22 → ⊥) → (base ≡ 24 → ⊥) → (base ≡ 5 → ⊥) → (base ≡ 6 → ⊥) → Unsigned n ≡ value_at code v at
-  unfolding value_at value_by
-  value_unsigned a b c d e = rw (r.is, kind_unsigned code base is a b c d e)
 
 -- a value is told by its own bytes alone
 pub value_of_bytes : (code : ℕ) (v : List ℕ) (at : ℕ) → at + width_of code ≤ length v → value_at code v at ≡ value_at code (part v at (width_of code)) 0
@@ -63,16 +38,6 @@ is_nan f n h = nan_bits_above f n ∙ lt-ltb _ _ h
 
 pub is_number : (f : Format) (n : ℕ) → n % top f ≤ ones f * hid f → nan_bits f n ≡ false
 is_number f n h = nan_bits_above f n ∙ le-ltb _ _ h
-
--- ---- A natural number less another fits 64 signed bits
-
-either : (t : Bool) {x y b : ℕ} → x < b → y < b → mag (cond t (negsuc x) (pos y)) < b
-either true h k = h
-either false h k = k
-
-pub less_fits : (n k : ℕ) → n < 2 ^ 63 → k < 2 ^ 63 → SFits w64 (pos n -ℤ pos k)
-less_fits n zero hn hk = record { sfits = let h : n + 0 < 2 ^ 63 = omega arith in h }
-less_fits n (suc k) hn hk = record { sfits = either (ltb n (suc k)) (omega arith) (omega arith) }
 
 -- ---- The bits of a value
 
@@ -198,16 +163,6 @@ pub kind_is : (code : ℕ) (v : List ℕ) (at : ℕ) → value_kind (value_at co
 unfolding value_at type_kind
 kind_is code v at = kind_by_type (kind_of code) (width_of code) (number_in (byte_order_of code) (width_of code) v at)
 
-module _ (code base : ℕ) (is : base ≡ base_type code) where
-  -- by the row of its own code
-  pub row_kind : (own : ℕ) → base ≡ own → kind_number (row_of own types).kind (row_of own types).width ≡ type_kind code
-  unfolding type_kind
-  row_kind own e = rw (kind_by code base own is e, width_by code base own is e)
-
-  pub unsigned_kind : (base ≡ 20 → ⊥) → (base ≡ 22 → ⊥) → (base ≡ 24 → ⊥) → (base ≡ 5 → ⊥) → (base ≡ 6 → ⊥) → 2 ≡ type_kind code
-  unfolding type_kind kind_number
-  unsigned_kind a b c d e = rw (kind_unsigned code base is a b c d e)
-
 -- ---- The bits of a value by its pattern
 
 extended_low : (most n : ℕ) → n ≤ most → extended most n ≡ n
@@ -217,9 +172,6 @@ extended_low most n h = rw (extended, le-leb n most h)
 extended_high : (most n : ℕ) → most < n → extended most n ≡ n + (18446744073709551614 - 2 * most)
 unfolding extended
 extended_high most n h = rw (extended, lt-leb n most h)
-
-pub extends : (most n : ℕ) → (n ≤ most → n ≡ extended most n) × (most < n → n + (18446744073709551614 - 2 * most) ≡ extended most n)
-extends most n = ((λ h. sym (extended_low most n h)), (λ h. sym (extended_high most n h)))
 
 -- a signed type's, by the half of its patterns
 pub splits_signed : (code base own : ℕ) → base ≡ base_type code → base ≡ own → (row_of own types).kind ≡ signed → (most : ℕ) → 256 ^ (row_of own types).width ≡ suc (2 * most + 1)
@@ -239,33 +191,9 @@ splits_signed code base own is e kind most whole low =
     }
 
 -- every other's
-unsigned_apart : unsigned ≡ signed → ⊥
-unsigned_apart e = let z : ◌≡◌ {A = ℕ} 0 1 = cc in absurd (omega arith)
-
-float_apart : float ≡ signed → ⊥
-float_apart e = let z : ◌≡◌ {A = ℕ} 0 1 = cc in absurd (omega arith)
-
 kind_apart : (base : ℕ) → (base ≡ 20 → ⊥) → (base ≡ 22 → ⊥) → (base ≡ 24 → ⊥) → (row_of base types).kind ≡ signed → ⊥
-kind_apart base a b c =
-    row_is (λ r. r.kind ≡ signed → ⊥) base types (
-      (λ q. unsigned_apart),
-      (
-        (λ q. unsigned_apart),
-        (
-          (λ q. absurd (a q)),
-          (
-            (λ q. unsigned_apart),
-            (
-              (λ q. absurd (b q)),
-              (
-                (λ q. unsigned_apart),
-                ((λ q. absurd (c q)), ((λ q. unsigned_apart), ((λ q. float_apart), ((λ q. float_apart), unsigned_apart)))),
-              ),
-            ),
-          ),
-        ),
-      ),
-    )
+unfolding row_of
+kind_apart base a b c e = grind (arith, common_steps)
 
 pub splits_others : (code base : ℕ) → base ≡ base_type code → (base ≡ 20 → ⊥) → (base ≡ 22 → ⊥) → (base ≡ 24 → ⊥) → Splits code 18446744073709551615
 unfolding width_of kind_of

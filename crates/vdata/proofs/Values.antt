@@ -2,19 +2,19 @@
 use Prim.Native.Nat.{ℕ, ◌+◌, ◌*◌, ◌<◌, ◌≤◌}
 use native.Mathlib.Nat.{suc-ne-zero, mul-le-mul, mul-le-mul_left, mul-le-mul_right, add-mul, mul-add, one-mul}
 use native.Mathlib.Omega.{arith}
-use mathlib.Core.Path.{◌≡◌, refl, sym, ap, ◌∙◌, subst}
+use mathlib.Core.Path.{◌≡◌, sym, ap, ◌∙◌, subst}
 use mathlib.Core.Logic.{inl, inr}
 use mathlib.Core.List.{List, [], ◌∷◌}
 use lib.ListN.{length}
 use lib.Dec.{ltb}
-use borrow.Author.Tests.{lt-ltb, le-ltb, ltb-true, le-leb, lt-leb, leb-true}
+use borrow.Author.Tests.{lt-ltb, ltb-true, le-leb, lt-leb, leb-true}
 use Rattle.answer.specs.Refusals.{RECORD, NO_VALUE}
 use Rattle.answer.specs.Answer.{Answer, grant, refuse, refusal, unless}
 use Rattle.answer.specs.Search.{Hit}
 use Rattle.answer.specs.declared.Refusal.{Refusal}
 use Rattle.answer.proofs.Tests.{zero?}
 use Rattle.answer.proofs.Search.{must_holds, must_fails, passed}
-use Rattle.answer.proofs.Answer.{refusal_is, unless_passes, unless_stops, unless_passed}
+use Rattle.answer.proofs.Answer.{number_positive, refusal_is, unless_passes, unless_stops, unless_passed}
 use Rattle.wire.specs.Numbers.{part, Bytes}
 use Rattle.wire.specs.declared.ByteOrder.TheVariants.{BigEndian}
 use Rattle.wire.proofs.Numbers.{number_small}
@@ -23,9 +23,12 @@ use Rattle.directory.specs.Opening.{opened}
 use Rattle.directory.specs.Lookup.{find, find_in}
 use Rattle.directory.specs.Steps.Opens.{Opens}
 use Rattle.directory.proofs.Opens.{opened_goes, opened_find}
-use Rattle.storage.specs.Elements.{located_at, refusal_in}
-use Rattle.storage.specs.declared.element.Located.{Located}
-use Rattle.storage.specs.declared.element.Located.TheVariants as located
+use Rattle.std.specs.Prelude.{Result, Ok, Err}
+use Rattle.answer.specs.Refusals.{number_of}
+use Rattle.answer.specs.declared.refusals.Rule.{Rule}
+use Rattle.answer.specs.declared.refusals.Rule.TheVariants as rule
+use Rattle.storage.specs.Elements.{Located, located_at}
+use Rattle.storage.specs.declared.element.Part.{Part}
 use Rattle.records.specs.Types.{width_of}
 use Rattle.records.specs.Readings.{record_at, record_bytes}
 use Rattle.records.proofs.Readings.{reads_refusal, reads_broken, reads_passed, reads_bytes, plain_bytes, content_bytes, content_passes, record_granted}
@@ -41,25 +44,16 @@ use Rattle.vdata.specs.Limits.{values_tag}
 use Rattle.vdata.specs.Patterns.{value_at, value_kind, value_bits}
 use Rattle.vdata.specs.Values.{field_fault, index_fault, place_of, values_fault, value_in, value_after, value_found, value_of, Gives}
 use Rattle.vdata.specs.ValueRules.{Indexed, Readable}
+use Rattle.vdata.specs.Steps.{Reach}
+use Rattle.vdata.proofs.Widths.{width_low}
 use Rattle.vdata.specs.declared.value.Value.{Value}
-use Rattle.vdata.specs.declared.value.Answered.{Answered}
-use Rattle.vdata.specs.declared.value.Answered.TheVariants as answered
 
 -- ---- The indices
 
 module _ (h : Head) (f : Numbers) (i c : ℕ) where
-  pub field_absent : h.fields ≤ i → field_fault h f i c ≡ NO_VALUE
+  pub field_passes : i < h.fields → c < f.order → field_fault h f i c ≡ 0
   unfolding field_fault
-  field_absent l = must_fails _ NO_VALUE _ (le-ltb _ _ l)
-
-  module _ (b : i < h.fields) (g : Numbers) (is : g ≡ f) where
-    pub component_absent : g.order ≤ c → field_fault h f i c ≡ NO_VALUE
-    unfolding field_fault
-    component_absent l = must_holds _ NO_VALUE _ (lt-ltb _ _ b) ∙ must_fails _ NO_VALUE _ (le-ltb c f.order (rw is at l))
-
-    pub field_passes : c < g.order → field_fault h f i c ≡ 0
-    unfolding field_fault
-    field_passes l = must_holds _ NO_VALUE _ (lt-ltb _ _ b) ∙ must_holds _ NO_VALUE _ (lt-ltb c f.order (rw is at l))
+  field_passes l m = must_holds _ NO_VALUE _ (lt-ltb _ _ l) ∙ must_holds _ NO_VALUE _ (lt-ltb _ _ m)
 
   pub field_inside : field_fault h f i c ≡ 0 → (i < h.fields) × (c < f.order)
   unfolding field_fault
@@ -69,10 +63,6 @@ module _ (h : Head) (f : Numbers) (i c : ℕ) where
       (ltb-true _ _ y.0, ltb-true _ _ z.0)
 
 module _ (h : Head) (f : Numbers) (r i c : ℕ) where
-  pub index_record : h.records ≤ r → index_fault h f r i c ≡ NO_VALUE
-  unfolding index_fault
-  index_record l = must_fails _ NO_VALUE _ (le-ltb _ _ l)
-
   pub index_goes : r < h.records → index_fault h f r i c ≡ field_fault h f i c
   unfolding index_fault
   index_goes l = must_holds _ NO_VALUE _ (lt-ltb _ _ l)
@@ -112,24 +102,15 @@ small_product a b l m =
     let y : b ≤ 65536 = omega arith in
     mul-le-mul x y
 
--- what a place is computed from
-pub record Reach (h : Head) (f : Numbers) (r c width : ℕ) : Type 0 where
-  pub before : r * h.record_size ≤ 281474976710656
-  pub column : h.records * f.offset ≤ 281474976710656
-  pub row : r * f.size ≤ 281474976710656
-  pub component : c * width ≤ 524288
-  pub offset : f.offset < 65536
-
-pub reach : (h : Head) (f : Numbers) (r c width : ℕ) → h.records < 4294967296 → h.record_size < 65536 → Narrow f → r < h.records → c < f.order → width ≤ 8
-    → Reach h f r c width
-reach h f r c width a b n l m w =
+pub reach : (h : Head) (f : Numbers) (r c : ℕ) → h.records < 4294967296 → h.record_size < 65536 → Narrow f → r < h.records → c < f.order → Reach h f r c
+reach h f r c a b n l m =
     let x : r < 4294967296 = omega arith in
     let y : c < 65536 = omega (arith, n.order) in
     record {
       before = small_product r h.record_size x b;
       column = small_product h.records f.offset a n.offset;
       row = small_product r f.size x n.size;
-      component = size_low c width y w;
+      component = size_low c (width_of f.code) y (width_low f.code);
       offset = n.offset;
     }
 
@@ -170,16 +151,12 @@ lies h f r c z l m =
 
 -- ---- The answer
 
-pub gives_refused : (answer : Answer) (v : Value) (x : Refusal) → answer ≡ refusal 2 x → Gives answer v (answered.Refused x)
+pub gives_refused : (answer : Answer) (v : Value) (x : Refusal) → answer ≡ refusal 2 x → Gives answer v (Err x)
 gives_refused answer v x e =
-    record { answers = sym e; exact = λ y q. let z : ◌≡◌ {A = ℕ} 0 1 = cc in absurd (omega arith) }
+    record { answers = sym e; exact = λ y q. cc }
 
-abbrev in_answer : Value → Answered → Value
-in_answer other (answered.Value v) = v
-in_answer other (answered.Refused r) = other
-
-pub gives_value : (answer : Answer) (v x : Value) → answer ≡ grant (value_kind x ∷ value_bits x ∷ []) → x ≡ v → Gives answer v (answered.Value x)
-gives_value answer v x e is = record { answers = sym e; exact = λ y q. ap (in_answer x) (sym q) ∙ is }
+pub gives_value : (answer : Answer) (v x : Value) → answer ≡ grant (value_kind x ∷ value_bits x ∷ []) → x ≡ v → Gives answer v (Ok x)
+gives_value answer v x e is = record { answers = sym e; exact = λ y q. cc }
 
 -- after a sound head of the bytes e
 module _ (s e : List ℕ) (found : Hit) (r i c : ℕ) where
@@ -192,57 +169,57 @@ module _ (s e : List ℕ) (found : Hit) (r i c : ℕ) where
   abbrev given : ℕ → List ℕ → Answer
   given at v = grant (value_kind (value_in e v r i c) ∷ value_bits (value_in e v r i c) ∷ [])
 
-  pub after_index : (n : ℕ) → n ≡ fault → (n ≡ 0 → ⊥) → (v : Value) → Gives (value_after s e found r i c) v (answered.Refused (record { number = n; place = 0 }))
+  pub after_index : (x : Rule) → number_of x ≡ fault → (v : Value) → Gives (value_after s e found r i c) v (Err (record { rule = x; place = 0 }))
   unfolding value_after
-  after_index n is z v = gives_refused _ v _ (unless_stops 2 fault 0 _ (λ q. z (is ∙ q)) ∙ ap (λ k. refuse 2 k 0) (sym is) ∙ sym (refusal_is 2 _ z))
+  after_index x is v = gives_refused _ v _ (unless_stops 2 fault 0 _ (λ q. number_positive x (is ∙ q)) ∙ ap (λ k. refuse 2 k 0) (sym is) ∙ sym (refusal_is 2 _))
 
   module _ (inside : fault ≡ 0) (l : Located) (is : l ≡ located_at s found) where
     goes : value_after s e found r i c ≡ record_at 2 s found (values_fault h) given
     unfolding value_after
     goes = unless_passes 2 fault 0 _ inside
 
-    pub after_refused : (x : Refusal) → l ≡ located.Refused x → (y : Refusal) → y ≡ refusal_in l → (v : Value) → Gives (value_after s e found r i c) v (answered.Refused y)
-    after_refused x at y taken v = gives_refused _ v y (goes ∙ reads_refusal 2 s found (values_fault h) given l is x at y taken)
+    pub after_refused : (x : Refusal) → l ≡ Err x → (v : Value) → Gives (value_after s e found r i c) v (Err x)
+    after_refused x at v = gives_refused _ v x (goes ∙ reads_refusal 2 s found (values_fault h) given l is x at)
 
     -- the bytes v of the values
-    module _ (q o n : ℕ) (at : l ≡ located.Plain q o n) (v : List ℕ) (of : v ≡ part s o n) where
-      pub after_short : length v < h.records * h.record_size → (w : Value) → Gives (value_after s e found r i c) w (answered.Refused (record { number = RECORD; place = q }))
+    module _ (x : Part) (at : l ≡ Ok x) (v : List ℕ) (of : v ≡ part s x.offset x.length) where
+      pub after_short : length v < h.records * h.record_size → (w : Value) → Gives (value_after s e found r i c) w (Err (record { rule = rule.Record; place = x.slot }))
       unfolding values_fault
       after_short m w =
           gives_refused _ w _
-          (goes ∙ reads_broken 2 s found (values_fault h) given l is q o n at v of RECORD (sym (must_fails _ RECORD 0 (lt-leb (h.records * h.record_size) (length v) m))) (λ z. omega arith))
+          (goes ∙ reads_broken 2 s found (values_fault h) given l is x at v of rule.Record (sym (must_fails _ RECORD 0 (lt-leb (h.records * h.record_size) (length v) m))))
 
-      pub after_given : h.records * h.record_size ≤ length v → (x : Value) → x ≡ value_in e v r i c
-          → Gives (value_after s e found r i c) (value_in e (record_bytes s found) r i c) (answered.Value x)
+      pub after_given : h.records * h.record_size ≤ length v → (w : Value) → w ≡ value_in e v r i c
+          → Gives (value_after s e found r i c) (value_in e (record_bytes s found) r i c) (Ok w)
       unfolding values_fault
-      after_given m x xi =
-          gives_value _ _ x
-          (goes ∙ reads_passed 2 s found (values_fault h) given l is q o n at v of (must_holds _ RECORD 0 (le-leb (h.records * h.record_size) (length v) m))
-          ∙ ap (λ y. grant (value_kind y ∷ value_bits y ∷ [])) (sym xi))
-          (xi ∙ ap (λ b. value_in e b r i c) (sym (reads_bytes s found l is q o n at ∙ sym of)))
+      after_given m w wi =
+          gives_value _ _ w
+          (goes ∙ reads_passed 2 s found (values_fault h) given l is x at v of (must_holds _ RECORD 0 (le-leb (h.records * h.record_size) (length v) m))
+          ∙ ap (λ y. grant (value_kind y ∷ value_bits y ∷ [])) (sym wi))
+          (wi ∙ ap (λ b. value_in e b r i c) (sym (reads_bytes s found l is x at ∙ sym of)))
 
 -- ---- The call, by what is found of the head
 
 module _ (s : List ℕ) (head values : Hit) (r i c : ℕ) (l : Located) (is : l ≡ located_at s head) where
-  pub read_refused : (x : Refusal) → l ≡ located.Refused x → (y : Refusal) → y ≡ refusal_in l → (v : Value) → Gives (value_found s head values r i c) v (answered.Refused y)
+  pub read_refused : (x : Refusal) → l ≡ Err x → (v : Value) → Gives (value_found s head values r i c) v (Err x)
   unfolding value_found
-  read_refused x at y taken v = gives_refused _ v y (reads_refusal 2 s head head_fault _ l is x at y taken)
+  read_refused x at v = gives_refused _ v x (reads_refusal 2 s head head_fault _ l is x at)
 
-  module _ (p o n : ℕ) (at : l ≡ located.Plain p o n) (e : List ℕ) (of : e ≡ part s o n) where
-    pub read_broken : (m : ℕ) → m ≡ head_fault e → (m ≡ 0 → ⊥) → (v : Value) → Gives (value_found s head values r i c) v (answered.Refused (record { number = m; place = p }))
+  module _ (x : Part) (at : l ≡ Ok x) (e : List ℕ) (of : e ≡ part s x.offset x.length) where
+    pub read_broken : (m : Rule) → number_of m ≡ head_fault e → (v : Value) → Gives (value_found s head values r i c) v (Err (record { rule = m; place = x.slot }))
     unfolding value_found
-    read_broken m q z v = gives_refused _ v _ (reads_broken 2 s head head_fault _ l is p o n at e of m q z)
+    read_broken m q v = gives_refused _ v _ (reads_broken 2 s head head_fault _ l is x at e of m q)
 
-    pub read_goes : head_fault e ≡ 0 → (w : List ℕ) (x : Answered) → Gives (value_after s e values r i c) (value_in e w r i c) x
-        → Gives (value_found s head values r i c) (value_in (record_bytes s head) w r i c) x
+    pub read_goes : head_fault e ≡ 0 → (w : List ℕ) (y : Result Value Refusal) → Gives (value_after s e values r i c) (value_in e w r i c) y
+        → Gives (value_found s head values r i c) (value_in (record_bytes s head) w r i c) y
     unfolding value_found
-    read_goes z w x g =
-        let b : record_bytes s head ≡ e = reads_bytes s head l is p o n at ∙ sym of in
-        let a = reads_passed 2 s head head_fault (λ at e. value_after s e values r i c) l is p o n at e of z in
+    read_goes z w y g =
+        let b : record_bytes s head ≡ e = reads_bytes s head l is x at ∙ sym of in
+        let a = reads_passed 2 s head head_fault (λ at e. value_after s e values r i c) l is x at e of z in
         rw (a, b) g
 
 -- in an image that was opened
-pub read_opened : (s : List ℕ) (blocks ref r i c : ℕ) → Opens s blocks → (x : Answered)
+pub read_opened : (s : List ℕ) (blocks ref r i c : ℕ) → Opens s blocks → (x : Result Value Refusal)
     → let head = find_in s blocks head_tag ref in let values = find_in s blocks values_tag ref in
     Gives (value_found s head values r i c) (value_in (record_bytes s head) (record_bytes s values) r i c) x
     → Gives (value_of s ref r i c) (value_in (record_bytes s (find s head_tag ref)) (record_bytes s (find s values_tag ref)) r i c) x
@@ -262,7 +239,7 @@ module _ (e : List ℕ) (r i c : ℕ) where
   there_indices : Indexed e r i c → index_fault (head_in e) (field_at e (head_in e) i) r i c ≡ 0
   there_indices x =
       rw (head_is e)
-      (index_goes (placed e) (field_at e (placed e) i) r i c x.record_there ∙ field_passes (placed e) (field_at e (placed e) i) i c x.field_there _ refl x.component_there)
+      (index_goes (placed e) (field_at e (placed e) i) r i c x.record_there ∙ field_passes (placed e) (field_at e (placed e) i) i c x.field_there x.component_there)
 
 pub all_records : (e : List ℕ) → (head_in e).records * (head_in e).record_size ≡ records_of e * record_size_of e
 all_records e = ap (λ h. h.records * h.record_size) (head_is e)

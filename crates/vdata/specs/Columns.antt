@@ -1,5 +1,5 @@
 -- Columns of Vdatas: one component of a field in every record. Each value is the one that the record has there. Assumes nothing.
-use Rattle.std.specs.Prelude.{ℕ, zero, suc, List, [], ◌∷◌, leb}
+use Rattle.std.specs.Prelude.{ℕ, zero, suc, List, [], ◌∷◌, leb, Result, Ok, Err}
 use Rattle.answer.specs.Answer.{Answer, grant, refusal, unless, in_room}
 use Rattle.answer.specs.Search.{Hit}
 use Rattle.directory.specs.Opening.{opened}
@@ -8,10 +8,11 @@ use Rattle.records.specs.Readings.{record_at, record_bytes}
 use Rattle.vhead.specs.Limits.{head_tag}
 use Rattle.vhead.specs.Heads.{head_in, head_fault, field_at}
 use Rattle.vdata.specs.Limits.{values_tag}
+use Rattle.vdata.specs.Kinds.{number_of}
 use Rattle.vdata.specs.Patterns.{value_bits, type_kind}
 use Rattle.vdata.specs.Values.{field_fault, values_fault, value_in}
-use Rattle.vdata.specs.declared.column.Answered.{Answered}
-use Rattle.vdata.specs.declared.column.Answered.TheVariants.{Column, Refused}
+use Rattle.answer.specs.declared.Refusal.{Refusal}
+use Rattle.vdata.specs.declared.column.Column.{Column}
 
 -- the bits of component c of field i in so many records from the record r on, in the bytes e of the head and v of the values
 unfoldable pub column_from : List ℕ → List ℕ → ℕ → ℕ → ℕ → ℕ → List ℕ
@@ -23,9 +24,9 @@ unfoldable pub column_in : List ℕ → List ℕ → ℕ → ℕ → List ℕ
 column_in e v i c = column_from e v i c 0 (head_in e).records
 
 -- a column answers the kind of its values and how many records there are
-abbrev pub column_numbers : Answered → Answer
-column_numbers (Column kind records) = grant (kind ∷ records ∷ [])
-column_numbers (Refused r) = refusal 2 r
+abbrev pub column_numbers : Result Column Refusal → Answer
+column_numbers (Ok x) = grant (number_of x.kind ∷ x.records ∷ [])
+column_numbers (Err r) = refusal 2 r
 
 -- where there are records: the values that were found, 11, 29, 12 and 15, then 14. Where there are none, whatever was found
 unfoldable pub column_given : List ℕ → List ℕ → Hit → ℕ → ℕ → ℕ → Answer

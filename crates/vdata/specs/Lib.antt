@@ -1,4 +1,5 @@
 pub mod Limits
+pub mod Kinds
 pub mod Patterns
 pub mod Values
 pub mod Columns

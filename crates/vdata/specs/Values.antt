@@ -1,5 +1,5 @@
 -- Values of Vdatas, in the element of tag 1963 that has the head's reference, after document 01, "Records". Assumes nothing.
-use Rattle.std.specs.Prelude.{ℕ, zero, suc, ◌+◌, ◌*◌, ◌≡◌, List, [], ◌∷◌, length, ltb, leb}
+use Rattle.std.specs.Prelude.{ℕ, zero, suc, ◌+◌, ◌*◌, ◌≡◌, List, [], ◌∷◌, length, ltb, leb, Result, Ok, Err}
 use Rattle.answer.specs.Answer.{Answer, grant, refusal, unless}
 use Rattle.answer.specs.Search.{must, Hit}
 use Rattle.answer.specs.Refusals.{RECORD, NO_VALUE}
@@ -14,8 +14,7 @@ use Rattle.vhead.specs.Heads.{head_in, head_fault, field_at}
 use Rattle.vhead.specs.declared.field.Numbers.{Numbers}
 use Rattle.vhead.specs.declared.head.Head.{Head}
 use Rattle.vdata.specs.declared.value.Value.{Value}
-use Rattle.vdata.specs.declared.value.Answered.{Answered}
-use Rattle.vdata.specs.declared.value.Answered.TheVariants as answered
+use Rattle.answer.specs.declared.Refusal.{Refusal}
 
 -- 17: a field or component index too large
 unfoldable pub field_fault : Head → Numbers → ℕ → ℕ → ℕ
@@ -38,9 +37,9 @@ unfoldable pub values_fault : Head → List ℕ → ℕ
 values_fault h v = must (leb (h.records * h.record_size) (length v)) RECORD 0
 
 -- a value answers its kind and its bits
-abbrev pub value_numbers : Answered → Answer
-value_numbers (answered.Value v) = grant (value_kind v ∷ value_bits v ∷ [])
-value_numbers (answered.Refused r) = refusal 2 r
+abbrev pub value_numbers : Result Value Refusal → Answer
+value_numbers (Ok v) = grant (value_kind v ∷ value_bits v ∷ [])
+value_numbers (Err r) = refusal 2 r
 
 -- the value of a granted call, in the bytes e of the head and v of the values
 unfoldable pub value_in : List ℕ → List ℕ → ℕ → ℕ → ℕ → Value
@@ -62,6 +61,6 @@ unfoldable pub value_of : List ℕ → ℕ → ℕ → ℕ → ℕ → Answer
 value_of s ref r i c = opened 2 s (value_found s (find s head_tag ref) (find s values_tag ref) r i c)
 
 -- the answer, and where a value is given, that very value
-pub record Gives (answer : Answer) (v : Value) (r : Answered) : Type 0 where
+pub record Gives (answer : Answer) (v : Value) (r : Result Value Refusal) : Type 0 where
   pub answers : value_numbers r ≡ answer
-  pub exact : (x : Value) → r ≡ answered.Value x → x ≡ v
+  pub exact : (x : Value) → r ≡ Ok x → x ≡ v

@@ -6,156 +6,132 @@ ghost use Rattle.directory.specs.Lookup.{find, find_in};
 ghost use Rattle.records.specs.Readings.{record_bytes};
 ghost use Rattle.records.specs.Types as Types;
 ghost use Rattle.vhead.specs.Heads as Heads;
-ghost use Rattle.vhead.specs.Steps as HeadSteps;
 ghost use Rattle.vhead.specs.Limits.{head_tag};
 ghost use Rattle.vdata.specs.Limits.{values_tag};
-ghost use Rattle.vdata.specs.Patterns as Patterns;
 ghost use Rattle.vdata.specs.Values as Values;
 ghost use Rattle.vdata.specs.Columns as Columns;
 ghost use Rattle.vdata.specs.Steps as Steps;
 
 use super::format::VALUES_TAG;
-use super::inside;
-use super::value::{field_fault, place};
+use super::kind;
+use super::kind::Kind;
+use super::value::{check_field, place};
 use answer::Refusal;
-use answer::refusals::{RECORD, SMALL};
-use directory::Opened;
+use answer::refusals::Rule;
 use records::scalar;
 use storage::element;
-use storage::element::Located;
 use vhead::field::Numbers;
 use vhead::format::HEAD_TAG;
 use vhead::head;
 use vhead::head::Head;
 use wire::ByteOrder;
 
-// The kind of the values, and how many records there are.
-#[derive(Clone, Copy)]
-pub enum Answered {
-    Column { kind: u64, records: usize },
-    Refused(Refusal),
-}
-
-// The kind of a type's values.
-fn kind(code: usize) -> u64
-    ensures { result ≡ Patterns.type_kind code }
-{
-    let base = scalar::base_type(code);
-    if base == 20 {
-        return 1;
-    }
-    if base == 22 {
-        return 1;
-    }
-    if base == 24 {
-        return 1;
-    }
-    if base == 5 {
-        return 3;
-    }
-    if base == 6 {
-        return 4;
-    }
-    2
+// The kind of a column's values, and how many records there are.
+#[derive(Clone, Copy, PartialEq, Eq)]
+pub struct Column {
+    pub kind: Kind,
+    pub records: usize,
 }
 
 // The greatest pattern of a type that is no negative number's.
+#[tactic(auto, using(crate::proofs::Patterns::splits_signed, crate::proofs::Patterns::splits_others), unfolding(records::specs::Types::row_of))]
 fn greatest(code: usize) -> usize
     ensures { Steps.Splits code result }
 {
-    let base = scalar::base_type(code);
-    if base == 20 {
-        return 127;
+    match scalar::base_type(code) {
+        20 => 127,
+        22 => 32767,
+        24 => 2147483647,
+        _ => usize::MAX,
     }
-    if base == 22 {
-        return 32767;
-    }
-    if base == 24 {
-        return 2147483647;
-    }
-    18446744073709551615
 }
 
 // The bits of a value, by its pattern and the greatest of its type that is no negative number's.
+#[tactic(auto, unfolding(crate::specs::Steps::extended))]
 fn bits(n: usize, most: usize) -> u64
     requires { most < n → (n ≤ 2 * most + 1) × (most ≤ 2147483647) }
     ensures { result ≡ Steps.extended most n }
 {
     if n <= most {
-        return n as u64;
+        n as u64
+    } else {
+        (n + (18446744073709551614 - 2 * most)) as u64
     }
-    (n + (18446744073709551614 - 2 * most)) as u64
 }
 
 // How far the values of a field lie apart from record to record.
+#[tactic(auto, unfolding(crate::specs::Steps::step_of))]
 fn step(h: Head, f: Numbers) -> usize
     ensures { result ≡ Steps.step_of h f }
 {
-    if h.interlace == 0 {
-        return h.record_size;
+    match h.interlace {
+        0 => h.record_size,
+        _ => f.size,
     }
-    f.size
 }
 
-// Puts the bits of so many values of a type, the first at a place and each so far from the one before, into the front of a list. Width and
-// byte order are the type's; each call names them as constants, so that the compiler makes a loop of its own for it.
-fn put_in(
-    part: &[u8],
+// Values of a type among bytes: so many, the first at a place and each so far from the one before.
+#[derive(Drop)]
+struct Laid<'a> {
+    part: &'a [u8],
     code: usize,
-    width: usize,
-    order: ByteOrder,
     first: usize,
     step: usize,
     count: usize,
-    out: &mut [u64],
-)
-    requires { (width ≡ Types.width_of code) × (order ≡ Types.byte_order_of code) × Steps.Fixed width
-        × Steps.AllInside first step width count (length part.now)
-        × (count ≤ length out.old) × (first + count * step < 18446744073709551616) }
-    ensures { out.new ≡ sets out.old 0 (Steps.bits_from code part.now first step count) }
-{
-    let most = greatest(code);
-    let mut at = first;
-    let mut i = 0;
-    while i < count {
-        out[i] = bits(inside::read_number(part, at, width, order), most);
-        at += step;
-        i += 1;
-    }
+    ghost there: { Steps.AllThere code first step count part.now },
 }
 
-// The same, by the type alone.
-fn put_values(part: &[u8], code: usize, at: usize, step: usize, count: usize, out: &mut [u64])
-    requires { (1 ≤ Types.width_of code) × Steps.AllInside at step (Types.width_of code) count (length part.now)
-        × (count ≤ length out.old) × (at + count * step < 18446744073709551616) }
-    ensures { out.new ≡ sets out.old 0 (Steps.bits_from code part.now at step count) }
-{
-    match scalar::byte_order(code) {
-        ByteOrder::BigEndian => match scalar::width(code) {
-            1 => put_in(part, code, 1, ByteOrder::BigEndian, at, step, count, out),
-            2 => put_in(part, code, 2, ByteOrder::BigEndian, at, step, count, out),
-            4 => put_in(part, code, 4, ByteOrder::BigEndian, at, step, count, out),
-            _ => put_in(part, code, 8, ByteOrder::BigEndian, at, step, count, out),
-        },
-        ByteOrder::LittleEndian => match scalar::width(code) {
-            1 => put_in(part, code, 1, ByteOrder::LittleEndian, at, step, count, out),
-            2 => put_in(part, code, 2, ByteOrder::LittleEndian, at, step, count, out),
-            4 => put_in(part, code, 4, ByteOrder::LittleEndian, at, step, count, out),
-            _ => put_in(part, code, 8, ByteOrder::LittleEndian, at, step, count, out),
-        },
+impl Laid<'_> {
+    // Puts their bits into the front of a list. Width and byte order are the type's; each call names them as constants, so that the compiler
+    // makes a loop of its own for it.
+    fn put_by<const WIDTH: usize>(&self, order: ByteOrder, out: &mut [u64])
+        requires { (WIDTH ≡ Types.width_of self.now.code) × (order ≡ Types.byte_order_of self.now.code) × (self.now.count ≤ length out.old) }
+        ensures { out.new ≡ sets out.old 0 (Steps.bits_from self.now.code self.now.part.now self.now.first self.now.step self.now.count) }
+    {
+        let most = greatest(self.code);
+        for i in 0..self.count {
+            let n = wire::inside::read_number(self.part, self.first + i * self.step, WIDTH, order);
+            out[i] = bits(n, most);
+        }
+    }
+
+    // The same, by the type alone.
+    fn put(&self, out: &mut [u64])
+        requires { self.now.count ≤ length out.old }
+        ensures { out.new ≡ sets out.old 0 (Steps.bits_from self.now.code self.now.part.now self.now.first self.now.step self.now.count) }
+    {
+        match scalar::byte_order(self.code) {
+            ByteOrder::BigEndian => match scalar::width(self.code) {
+                1 => self.put_by::<1>(ByteOrder::BigEndian, out),
+                2 => self.put_by::<2>(ByteOrder::BigEndian, out),
+                4 => self.put_by::<4>(ByteOrder::BigEndian, out),
+                _ => self.put_by::<8>(ByteOrder::BigEndian, out),
+            },
+            ByteOrder::LittleEndian => match scalar::width(self.code) {
+                1 => self.put_by::<1>(ByteOrder::LittleEndian, out),
+                2 => self.put_by::<2>(ByteOrder::LittleEndian, out),
+                4 => self.put_by::<4>(ByteOrder::LittleEndian, out),
+                _ => self.put_by::<8>(ByteOrder::LittleEndian, out),
+            },
+        }
     }
 }
 
 // Puts a component of a field in every record into the front of a list.
 fn put_column(values: &[u8], h: Head, f: Numbers, component: usize, out: &mut [u64])
-    requires { (h.records < 4294967296) × (h.record_size < 65536) × HeadSteps.Narrow f
-        × (0 < h.records) × (component < f.order) × (h.records ≤ length out.old) × (1 ≤ Types.width_of f.code)
-        × Steps.AllInside (Values.place_of h f 0 component) (Steps.step_of h f) (Types.width_of f.code) h.records (length values.now) }
+    requires { Steps.Reach h f 0 component × (h.records ≤ length out.old)
+        × Steps.AllThere f.code (Values.place_of h f 0 component) (Steps.step_of h f) h.records values.now }
     ensures { out.new ≡ sets out.old 0
         (Steps.bits_from f.code values.now (Values.place_of h f 0 component) (Steps.step_of h f) h.records) }
 {
-    let first = place(h, f, 0, component);
-    put_values(values, f.code, first, step(h, f), h.records, out);
+    let laid = Laid {
+        part: values,
+        code: f.code,
+        first: place(h, f, 0, component),
+        step: step(h, f),
+        count: h.records,
+    };
+    laid.put(out);
 }
 
 // Reads the column after a sound head.
@@ -167,49 +143,32 @@ fn read_after(
     field: usize,
     component: usize,
     out: &mut [u64],
-) -> Answered
+) -> Result<Column, Refusal>
     requires { Heads.head_fault part.now ≡ 0 }
     ensures { let s = image.now in let e = part.now in let values = find_in s blocks values_tag reference in
         Does (Columns.column_after s e values field component (length out.old)) (Columns.column_in e (record_bytes s values) field component)
         out.old out.new (Columns.column_numbers result) }
 {
     let h = head::parse(part);
-    let number = field_fault(h, part, field, component);
-    if number != 0 {
-        return Answered::Refused(Refusal { number, place: 0 });
-    }
+    check_field(h, part, field, component)?;
     let f = head::numbers_at(part, field as u16);
-    let kind = kind(f.code);
+    let kind = kind::of_type(f.code);
     if h.records == 0 {
-        return Answered::Column { kind, records: 0 };
+        return Ok(Column { kind, records: 0 });
     }
-    let located = element::locate(image, blocks, VALUES_TAG, reference);
-    let Located::Plain {
-        slot,
-        offset,
-        length,
-    } = located
-    else {
-        return Answered::Refused(element::refusal_of(located));
-    };
-    let values = wire::part(image, offset, length);
+    let found = element::locate(image, blocks, VALUES_TAG, reference)?;
+    let values = wire::part(image, found.offset, found.length);
     if values.len() < h.records * h.record_size {
-        return Answered::Refused(Refusal {
-            number: RECORD,
-            place: slot,
-        });
+        return Err(Rule::Record.at(found.slot));
     }
     if out.len() < h.records {
-        return Answered::Refused(Refusal {
-            number: SMALL,
-            place: 0,
-        });
+        return Err(Rule::Small.at(0));
     }
     put_column(values, h, f, component, out);
-    Answered::Column {
+    Ok(Column {
         kind,
         records: h.records,
-    }
+    })
 }
 
 // Reads a component of a field in every record of the Vdata of a reference to the front of a lent list, in a chain of so many blocks.
@@ -220,29 +179,17 @@ pub fn read_in(
     field: u64,
     component: u64,
     out: &mut [u64],
-) -> Answered
+) -> Result<Column, Refusal>
     ensures { let s = image.now in
         let head = find_in s blocks head_tag reference in let values = find_in s blocks values_tag reference in
         Does (Columns.column_found s head values field component (length out.old))
         (Columns.column_in (record_bytes s head) (record_bytes s values) field component)
         out.old out.new (Columns.column_numbers result) }
 {
-    let located = element::locate(image, blocks, HEAD_TAG, reference);
-    let Located::Plain {
-        slot,
-        offset,
-        length,
-    } = located
-    else {
-        return Answered::Refused(element::refusal_of(located));
-    };
-    let part = wire::part(image, offset, length);
-    let number = head::fault(part);
-    if number != 0 {
-        return Answered::Refused(Refusal {
-            number,
-            place: slot,
-        });
+    let found = element::locate(image, blocks, HEAD_TAG, reference)?;
+    let part = wire::part(image, found.offset, found.length);
+    if let Err(rule) = head::check(part) {
+        return Err(rule.at(found.slot));
     }
     read_after(
         image,
@@ -256,14 +203,20 @@ pub fn read_in(
 }
 
 // The same in an image that is opened first.
-pub fn read(image: &[u8], reference: u16, field: u64, component: u64, out: &mut [u64]) -> Answered
+pub fn read(
+    image: &[u8],
+    reference: u16,
+    field: u64,
+    component: u64,
+    out: &mut [u64],
+) -> Result<Column, Refusal>
     ensures { let s = image.now in
         Does (Columns.column_of s reference field component (length out.old)) (Columns.column_bits s reference field component)
         out.old out.new (Columns.column_numbers result) }
 {
     let opened = directory::open(image);
-    let Opened::Accepted(counts) = opened else {
-        return Answered::Refused(directory::refusal_of(opened));
+    let Ok(counts) = opened else {
+        return Err(opened.unwrap_err());
     };
     read_in(image, counts.blocks, reference, field, component, out)
 }

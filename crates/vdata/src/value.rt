@@ -1,23 +1,24 @@
 // Values of Vdatas, in the element of tag 1963 that has the head's reference.
 ghost use Rattle.std.specs.Prelude.{◌≡◌, ◌*◌, ◌≤◌, ◌<◌};
 ghost use Rattle.wire.specs.Numbers.{ReadsIn};
+ghost use Rattle.answer.specs.Refusals.{fault_of};
 ghost use Rattle.directory.specs.Lookup.{find, find_in};
 ghost use Rattle.records.specs.Readings.{record_bytes};
 ghost use Rattle.records.specs.Types as Types;
 ghost use Rattle.vhead.specs.Heads as Heads;
-ghost use Rattle.vhead.specs.Steps as Steps;
 ghost use Rattle.vhead.specs.Limits.{head_tag};
 ghost use Rattle.vdata.specs.Limits.{values_tag};
+ghost use Rattle.vdata.specs.Kinds.{number_of};
 ghost use Rattle.vdata.specs.Patterns as Patterns;
 ghost use Rattle.vdata.specs.Values as Values;
+ghost use Rattle.vdata.specs.Steps as Steps;
 
 use super::format::VALUES_TAG;
+use super::kind::Kind;
 use answer::Refusal;
-use answer::refusals::{NO_VALUE, RECORD};
-use directory::Opened;
+use answer::refusals::Rule;
 use records::scalar;
 use storage::element;
-use storage::element::Located;
 use vhead::field::Numbers;
 use vhead::format::HEAD_TAG;
 use vhead::head;
@@ -34,13 +35,22 @@ pub enum Value {
     Nan64(u64),
 }
 
-#[derive(Clone, Copy)]
-pub enum Answered {
-    Value(Value),
-    Refused(Refusal),
+impl Value {
+    // Its kind: a NaN is a float.
+    pub fn kind(self) -> Kind
+        ensures { number_of result ≡ Patterns.value_kind self }
+    {
+        match self {
+            Value::Signed(_) => Kind::Signed,
+            Value::Unsigned(_) => Kind::Unsigned,
+            Value::Float32(_) | Value::Nan32(_) => Kind::Float32,
+            Value::Float64(_) | Value::Nan64(_) => Kind::Float64,
+        }
+    }
 }
 
 // A number of two's complement by its pattern, with the half of what its bits can count.
+#[tactic(auto, unfolding(crate::specs::Patterns::signed_by))]
 fn signed(n: usize, half: usize) -> Value
     requires { (n < 2 * half) × (half ≤ 2147483648) }
     ensures { result ≡ Patterns.signed_by n (2 * half) }
@@ -53,6 +63,7 @@ fn signed(n: usize, half: usize) -> Value
     Value::Signed(z - whole)
 }
 
+#[tactic(auto, unfolding(crate::specs::Patterns::float32), using(crate::proofs::Patterns::is_nan, crate::proofs::Patterns::is_number))]
 fn float32(n: usize) -> Value
     requires { n < 4294967296 }
     ensures { result ≡ Patterns.float32 n }
@@ -64,6 +75,7 @@ fn float32(n: usize) -> Value
     Value::Float32(f32::from_bits(bits))
 }
 
+#[tactic(auto, unfolding(crate::specs::Patterns::float64), using(crate::proofs::Patterns::is_nan, crate::proofs::Patterns::is_number))]
 fn float64(n: usize) -> Value
     ensures { result ≡ Patterns.float64 n }
 {
@@ -82,66 +94,66 @@ fn pattern(code: usize, part: &[u8], at: usize) -> usize
 }
 
 // The value of a type at a place of the values.
+#[tactic(auto, unfolding(crate::specs::Patterns::value_at, crate::specs::Patterns::value_by, records::specs::Types::kind_of, records::specs::Types::width_of, records::specs::Types::row_of))]
 fn value_at(code: usize, part: &[u8], at: usize) -> Value
     ensures { result ≡ Patterns.value_at code part.now at }
 {
     let n = pattern(code, part, at);
-    let base = scalar::base_type(code);
-    if base == 20 {
-        return signed(n, 128);
+    match scalar::base_type(code) {
+        20 => signed(n, 128),
+        22 => signed(n, 32768),
+        24 => signed(n, 2147483648),
+        5 => float32(n),
+        6 => float64(n),
+        _ => Value::Unsigned(n as u64),
     }
-    if base == 22 {
-        return signed(n, 32768);
-    }
-    if base == 24 {
-        return signed(n, 2147483648);
-    }
-    if base == 5 {
-        return float32(n);
-    }
-    if base == 6 {
-        return float64(n);
-    }
-    Value::Unsigned(n as u64)
 }
 
-// The number of the rule that the indices of a field and a component break, 0 where they break none.
-pub(crate) fn field_fault(h: Head, part: &[u8], field: usize, component: usize) -> usize
+// The rules of the indices of a field and a component.
+#[tactic(auto, unfolding(crate::specs::Values::field_fault, answer::specs::Search::must))]
+pub(crate) fn check_field(h: Head, part: &[u8], field: usize, component: usize) -> Result<(), Rule>
     requires { h ≡ Heads.head_in part.now }
-    ensures { result ≡ Values.field_fault h (Heads.field_at part.now h field) field component }
+    ensures { fault_of result ≡ Values.field_fault h (Heads.field_at part.now h field) field component }
 {
     if h.fields <= field {
-        return NO_VALUE;
+        return Err(Rule::NoValue);
     }
     let f = head::numbers_at(part, field as u16);
     if f.order <= component {
-        return NO_VALUE;
+        return Err(Rule::NoValue);
     }
-    0
+    Ok(())
 }
 
-// The same of the indices of a record, a field and a component.
-fn index_fault(h: Head, part: &[u8], record: usize, field: usize, component: usize) -> usize
+// The rules of the indices of a record, a field and a component.
+#[tactic(auto, unfolding(crate::specs::Values::index_fault, answer::specs::Search::must))]
+fn check_index(
+    h: Head,
+    part: &[u8],
+    record: usize,
+    field: usize,
+    component: usize,
+) -> Result<(), Rule>
     requires { h ≡ Heads.head_in part.now }
-    ensures { result ≡ Values.index_fault h (Heads.field_at part.now h field) «record» field component }
+    ensures { fault_of result ≡ Values.index_fault h (Heads.field_at part.now h field) «record» field component }
 {
     if h.records <= record {
-        return NO_VALUE;
+        return Err(Rule::NoValue);
     }
-    field_fault(h, part, field, component)
+    check_field(h, part, field, component)
 }
 
 // Where a component of a field in a record lies among the values.
+#[tactic(auto, unfolding(crate::specs::Values::place_of))]
 pub(crate) fn place(h: Head, f: Numbers, record: usize, component: usize) -> usize
-    requires { (h.records < 4294967296) × (h.record_size < 65536) × Steps.Narrow f
-        × («record» < h.records) × (component < f.order) }
+    requires { Steps.Reach h f «record» component }
     ensures { result ≡ Values.place_of h f «record» component }
 {
-    let width = scalar::width(f.code);
-    if h.interlace == 0 {
-        return record * h.record_size + f.offset + component * width;
+    let before = component * scalar::width(f.code);
+    match h.interlace {
+        0 => record * h.record_size + f.offset + before,
+        _ => h.records * f.offset + record * f.size + before,
     }
-    h.records * f.offset + record * f.size + component * width
 }
 
 // Reads the value after a sound head.
@@ -153,34 +165,20 @@ fn read_after(
     record: usize,
     field: usize,
     component: usize,
-) -> Answered
+) -> Result<Value, Refusal>
     ensures { let s = image.now in let e = part.now in let values = find_in s blocks values_tag reference in
         Values.Gives (Values.value_after s e values «record» field component)
         (Values.value_in e (record_bytes s values) «record» field component) result }
 {
     let h = head::parse(part);
-    let number = index_fault(h, part, record, field, component);
-    if number != 0 {
-        return Answered::Refused(Refusal { number, place: 0 });
-    }
-    let located = element::locate(image, blocks, VALUES_TAG, reference);
-    let Located::Plain {
-        slot,
-        offset,
-        length,
-    } = located
-    else {
-        return Answered::Refused(element::refusal_of(located));
-    };
-    let values = wire::part(image, offset, length);
+    check_index(h, part, record, field, component)?;
+    let found = element::locate(image, blocks, VALUES_TAG, reference)?;
+    let values = wire::part(image, found.offset, found.length);
     if values.len() < h.records * h.record_size {
-        return Answered::Refused(Refusal {
-            number: RECORD,
-            place: slot,
-        });
+        return Err(Rule::Record.at(found.slot));
     }
     let f = head::numbers_at(part, field as u16);
-    Answered::Value(value_at(f.code, values, place(h, f, record, component)))
+    Ok(value_at(f.code, values, place(h, f, record, component)))
 }
 
 // Reads a value of the Vdata of a reference, by the indices of its record, its field and its component, in a chain of so many blocks.
@@ -191,28 +189,16 @@ pub fn read_in(
     record: u64,
     field: u64,
     component: u64,
-) -> Answered
+) -> Result<Value, Refusal>
     ensures { let s = image.now in
         let head = find_in s blocks head_tag reference in let values = find_in s blocks values_tag reference in
         Values.Gives (Values.value_found s head values «record» field component)
         (Values.value_in (record_bytes s head) (record_bytes s values) «record» field component) result }
 {
-    let located = element::locate(image, blocks, HEAD_TAG, reference);
-    let Located::Plain {
-        slot,
-        offset,
-        length,
-    } = located
-    else {
-        return Answered::Refused(element::refusal_of(located));
-    };
-    let part = wire::part(image, offset, length);
-    let number = head::fault(part);
-    if number != 0 {
-        return Answered::Refused(Refusal {
-            number,
-            place: slot,
-        });
+    let found = element::locate(image, blocks, HEAD_TAG, reference)?;
+    let part = wire::part(image, found.offset, found.length);
+    if let Err(rule) = head::check(part) {
+        return Err(rule.at(found.slot));
     }
     read_after(
         image,
@@ -226,15 +212,21 @@ pub fn read_in(
 }
 
 // The same in an image that is opened first.
-pub fn read(image: &[u8], reference: u16, record: u64, field: u64, component: u64) -> Answered
+pub fn read(
+    image: &[u8],
+    reference: u16,
+    record: u64,
+    field: u64,
+    component: u64,
+) -> Result<Value, Refusal>
     ensures { let s = image.now in
         let head = find s head_tag reference in let values = find s values_tag reference in
         Values.Gives (Values.value_of s reference «record» field component)
         (Values.value_in (record_bytes s head) (record_bytes s values) «record» field component) result }
 {
     let opened = directory::open(image);
-    let Opened::Accepted(counts) = opened else {
-        return Answered::Refused(directory::refusal_of(opened));
+    let Ok(counts) = opened else {
+        return Err(opened.unwrap_err());
     };
     read_in(image, counts.blocks, reference, record, field, component)
 }

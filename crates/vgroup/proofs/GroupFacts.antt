@@ -18,9 +18,9 @@ use Rattle.answer.proofs.Answer.{unless_passes, unless_stops}
 use Rattle.wire.specs.Numbers.{be, part}
 use Rattle.wire.specs.Layouts.{read}
 use Rattle.directory.specs.Lookup.{find}
-use Rattle.storage.specs.Elements.{located_at, refusal_in}
-use Rattle.storage.specs.declared.element.Located.TheVariants.{Plain, Refused}
-use Rattle.records.specs.Readings.{record_bytes}
+use Rattle.storage.specs.Elements.{part_at, located_at}
+use Rattle.storage.specs.declared.element.Part.{Part}
+use Rattle.records.specs.Readings.{sound, refused, record_bytes}
 use Rattle.records.specs.RecordRules.{slot_in}
 use Rattle.records.proofs.Readings.{sound_refused, sound_broken, sound_passes, sound_plain, reads_bytes}
 use Rattle.records.proofs.RecordRules.{goes_plain, By, by_same, by_room, by_opened, by_plain}
@@ -30,13 +30,13 @@ use Rattle.vgroup.proofs.Groups.{group_in, group_long, group_version, group_soun
 
 -- where it is sound its element stands at its slot; else it is refused
 abbrev Stands : List ℕ → Hit → Type 0
-Stands s found = (offset : ℕ) × (size : ℕ) × (sound_group s found ≡ Plain (slot_in found) offset size)
+Stands s found = (offset : ℕ) × (size : ℕ) × (sound_group s found ≡ sound (part_at (slot_in found) offset size))
 
 abbrev Refuses : List ℕ → Hit → ℕ → ℕ → Type 0
-Refuses s found n p = sound_group s found ≡ Refused (record { number = n; place = p })
+Refuses s found n p = sound_group s found ≡ refused n p
 
-pub stands_bytes : (s : List ℕ) (found : Hit) (p o n : ℕ) → sound_group s found ≡ Plain p o n → record_bytes s found ≡ part s o n
-stands_bytes s found p o n e = reads_bytes s found (located_at s found) refl p o n (sound_plain group_fault s (located_at s found) p o n e).0
+pub stands_bytes : (s : List ℕ) (found : Hit) (x : Part) → sound_group s found ≡ sound x → record_bytes s found ≡ part s x.offset x.length
+stands_bytes s found x e = reads_bytes s found (located_at s found) refl x (sound_plain group_fault s (located_at s found) x e).0
 
 -- ---- The rules of the record, one number for all
 
@@ -60,10 +60,10 @@ pub group_goes : (s : List ℕ) (found : Hit) → Goes (group_rules s found) (St
 group_goes s found =
     let e = record_bytes s found in
     goes_plain _ _ s _ found (λ x l. sound_refused group_fault s (located_at s found) x l)
-    (λ o n l. let b = reads_bytes s found _ refl _ o n l in
+    (λ o n l. let b = reads_bytes s found _ refl _ l in
     goes_rule _ _ 15 _ _ _ (record_sound e)
-    (λ z. sound_broken group_fault s _ _ o n l e b 15 (sym (record_fault e z)) (suc-ne-zero 14))
-    (λ h. goes_done _ _ (o, n, sound_passes group_fault s _ _ o n l e b (group_sound e h.0 h.1))))
+    (λ z. sound_broken group_fault s _ _ l e b 15 (sym (record_fault e z)) (suc-ne-zero 14))
+    (λ h. goes_done _ _ (o, n, sound_passes group_fault s _ _ l e b (group_sound e h.0 h.1))))
 
 -- and both directions
 pub stands_exactly : (s : List ℕ) (found : Hit)
@@ -71,7 +71,7 @@ pub stands_exactly : (s : List ℕ) (found : Hit)
 stands_exactly s found =
     exactly (Stands s found) (Refuses s found) (group_rules s found) (group_goes s found)
     (λ x n p r. let q = sym x.2 ∙ r in let z : ◌≡◌ {A = ℕ} 0 1 = cc in omega arith)
-    (λ n p m q a b. let e = ap refusal_in (sym b ∙ a) in (ap (λ y. y.number) e, ap (λ y. y.place) e))
+    (λ n p m q a b. let e : refused m q ≡ refused n p = sym b ∙ a in (cc, cc))
 
 -- ---- Reading a group
 

@@ -10,8 +10,8 @@ use borrow.Author.Tests.{leb-true, le-leb, lt-leb, eqb-true, eq-eqb, ne_eqb}
 use Rattle.wire.specs.Numbers.{be, bytes, put, part, Bytes, Reads}
 use Rattle.wire.specs.declared.ByteOrder.TheVariants.{BigEndian}
 use Rattle.wire.proofs.Numbers.{number_small, length_bytes}
-use Rattle.answer.specs.Answer.{grant, refuse, refusal, Answer, in_room}
-use Rattle.answer.specs.Refusals.{SMALL, RECORD}
+use Rattle.answer.specs.Answer.{grant, refusal, Answer, in_room}
+use Rattle.answer.specs.Refusals.{RECORD, number_of}
 use Rattle.directory.specs.Limits.{most_bytes}
 use Rattle.directory.specs.Slots.{content_at}
 use Rattle.answer.specs.declared.Refusal.{Refusal}
@@ -19,14 +19,17 @@ use Rattle.answer.proofs.Search.{must_holds, must_fails, passed}
 use Rattle.answer.specs.Lent.{Does}
 use Rattle.answer.specs.Search.{Hit}
 use Rattle.answer.proofs.Lent.{refuses}
-use Rattle.storage.specs.Elements.{start_at, located_at, bytes_at, offset_in, start_of, on_plain}
-use Rattle.storage.specs.declared.element.Located.TheVariants.{Plain, Refused}
+use Rattle.answer.specs.declared.refusals.Rule.TheVariants.{Small}
+use Rattle.std.specs.Prelude.{Ok, Err}
+use Rattle.storage.specs.Elements.{Located, start_at, located_at, bytes_at, offset_in, start_of}
+use Rattle.storage.specs.declared.element.Part.{Part}
 use Rattle.records.specs.Limits.{most_count}
 use Rattle.wire.specs.Layouts.{read, extent, pack, numbers_at, bytes_each}
-use Rattle.records.specs.Readings.{record_at, record_bytes}
+use Rattle.records.specs.Readings.{sound, sound_of, on_sound, record_at, record_bytes}
 use Rattle.wire.proofs.Layouts.{length_numbers_at, length_bytes_each, numbers_at_next}
-use Rattle.records.proofs.Readings.{sound_plain, sound_positive, reads_list, record_granted}
-use Rattle.answer.proofs.Answer.{refusal_is, in_room_enough, in_room_short, in_room_passed}
+use Rattle.records.proofs.Readings.{sound_plain, reads_list, record_granted}
+use Rattle.std.specs.Prelude.{replicate}
+use Rattle.answer.proofs.Answer.{refused_is, number_positive, in_room_enough, in_room_short, in_room_passed}
 use Rattle.vset.specs.Limits.{only_version}
 use Rattle.vset.specs.Columns.{rows2, every}
 use Rattle.vset.specs.Tails.{tail, tail_numbers, tail_pack_fault, names_end}
@@ -139,35 +142,44 @@ members_all e = members_from_lem e (group_in e).members ∙ sym (members_are e)
 -- ---- Reading a group
 
 -- what a reading at what a lookup found leaves in the lent list
-module _ (s : List ℕ) (found : Hit) (list : List ℕ) where
+module _ (s : List ℕ) (found : Hit) (list : List ℕ) (l : Located) (l_is : sound_of l ≡ sound_group s found) where
   abbrev ReadsGroup : Answer → List ℕ → Type 0
   ReadsGroup numbers after = Does (group_at s found (length list)) (group_members (record_bytes s found)) list after numbers
 
-  pub unsound : (x : Refusal) → sound_group s found ≡ Refused x → (r : Refusal) → r ≡ x → ReadsGroup (refusal 9 r) list × (r.number ≡ 0 → ⊥)
+  pub unsound : (r : Refusal) → l ≡ Err r → ReadsGroup (refusal 9 r) list
   unfolding group_at record_at
-  unsound x e r is =
-      let z = sound_positive group_fault s found x e in
-      rw is (refuses _ _ list 9 x (ap (on_plain 9 _) e ∙ refusal_is 9 x z) z, z)
+  unsound r q =
+      refuses _ _ list 9 r
+      (ap (on_sound 9 _) (sym l_is ∙ ap sound_of q) ∙ refused_is (replicate 9 0) (number_of r.rule) r.place (number_positive r.rule))
 
   -- the element is sound, and e is its bytes
-  module _ (p o n : ℕ) (sound : sound_group s found ≡ Plain p o n) (e : List ℕ) (is : e ≡ part s o n) (g : Group) (parsed : g ≡ group_in e) where
-    goes : group_at s found (length list) ≡ in_room 9 (leb (2 * g.members) (length list)) (grant (group_values o g))
+  module _ (x : Part) (l_sound : l ≡ Ok x) (e : List ℕ) (is : e ≡ part s x.offset x.length) (g : Group) (parsed : g ≡ group_in e) where
+    is_sound : sound_group s found ≡ sound x
+    is_sound = sym l_is ∙ ap sound_of l_sound
+
+    located : (located_at s found ≡ Ok x) × (group_fault (part s x.offset x.length) ≡ 0)
+    located = sound_plain group_fault s (located_at s found) x is_sound
+
+    -- its members lie inside
+    pub members_fit : 2 + 4 * g.members ≤ length e
+    members_fit = group_room e (ap group_fault is ∙ located.1) g parsed
+
+    goes : group_at s found (length list) ≡ in_room 9 (leb (2 * g.members) (length list)) (grant (group_values x.offset g))
     unfolding group_at record_at
-    goes = ap (on_plain 9 _) sound ∙ rw (parsed, is)
+    goes = ap (on_sound 9 _) is_sound ∙ rw (parsed, is)
 
     -- all that the record is read as
-    pub held : (start_of s found ≡ o) × (g ≡ read group (record_bytes s found) 0)
+    pub held : (start_of s found ≡ x.offset) × (g ≡ read group (record_bytes s found) 0)
     held =
-        let l = (sound_plain group_fault s (located_at s found) p o n sound).0 in
-        (ap offset_in l, parsed ∙ ap (λ x. read group x 0) (is ∙ sym (ap (bytes_at s) l)))
+        (ap offset_in located.0, parsed ∙ ap (λ b. read group b 0) (is ∙ sym (ap (bytes_at s) located.0)))
 
-    pub small : length list < 2 * g.members → ReadsGroup (refuse 9 SMALL 0) list
-    small h = refuses _ _ list 9 (record { number = SMALL; place = 0 }) (goes ∙ in_room_short 9 _ _ (lt-leb _ _ h)) (λ z. omega arith)
+    pub small : length list < 2 * g.members → ReadsGroup (refusal 9 (record { rule = Small; place = 0 })) list
+    small h = refuses _ _ list 9 (record { rule = Small; place = 0 }) (goes ∙ in_room_short 9 _ _ (lt-leb _ _ h))
 
     pub listed : 2 * g.members ≤ length list → (after : List ℕ)
-        → after ≡ sets list 0 (rows2 (numbers_at 2 g.members e 2) (numbers_at 2 g.members e (2 + 2 * g.members))) → ReadsGroup (grant (group_values o g)) after
+        → after ≡ sets list 0 (rows2 (numbers_at 2 g.members e 2) (numbers_at 2 g.members e (2 + 2 * g.members))) → ReadsGroup (grant (group_values x.offset g)) after
     listed h after q =
-        let b : record_bytes s found ≡ e = ap (bytes_at s) (sound_plain group_fault s (located_at s found) p o n sound).0 ∙ sym is in
+        let b : record_bytes s found ≡ e = ap (bytes_at s) located.0 ∙ sym is in
         let m : rows2 (numbers_at 2 g.members e 2) (numbers_at 2 g.members e (2 + 2 * g.members)) ≡ group_members e =
         ap (λ n. rows2 (numbers_at 2 n e 2) (numbers_at 2 n e (2 + 2 * n))) (ap (λ y. y.members) parsed) ∙ sym (members_are e) in
         let l : 2 * (group_in e).members ≤ length list = rw parsed at h in

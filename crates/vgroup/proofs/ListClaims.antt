@@ -16,8 +16,8 @@ use Rattle.directory.specs.Lookup.{find}
 use Rattle.directory.specs.Rules.{Unstored}
 use Rattle.directory.specs.Named.{Named}
 use Rattle.directory.proofs.Opens.{opened_goes, opened_stops, opened_passed}
-use Rattle.storage.specs.declared.element.Located.{Located}
-use Rattle.storage.specs.declared.element.Located.TheVariants.{Plain, Refused}
+use Rattle.storage.specs.Elements.{part_at}
+use Rattle.records.specs.Readings.{Sound, sound, refused}
 use Rattle.vgroup.specs.Limits.{group_tag, most_groups}
 use Rattle.vgroup.specs.Groups.{group_members, sound_group}
 use Rattle.vgroup.specs.Listings.{Listing, pair, members_from, entered, list_from, places_in, listing_in, listing_at, listing_of, pairs_of}
@@ -58,12 +58,12 @@ module _ (s : List ℕ) where
 
 module _ (s : List ℕ) (ref : ℕ) where
   -- the element of a group is found, from its slot on, exactly if the group is sound
-  pub group_found : ((o : ℕ) × (n : ℕ) × (sound_group s (find s 1965 ref) ≡ Plain (slot_in (find s 1965 ref)) o n)) ↔ SoundGroup s ref
+  pub group_found : ((o : ℕ) × (n : ℕ) × (sound_group s (find s 1965 ref) ≡ sound (part_at (slot_in (find s 1965 ref)) o n))) ↔ SoundGroup s ref
   group_found = (stands_exactly s (find s 1965 ref)).0
 
   -- and refused exactly by the first of its rules that is broken
   pub group_refused : (n p : ℕ)
-      → (sound_group s (find s 1965 ref) ≡ Refused (record { number = n; place = p })) ↔ FirstBroken (group_rules s (find s 1965 ref)) n p
+      → (sound_group s (find s 1965 ref) ≡ refused n p) ↔ FirstBroken (group_rules s (find s 1965 ref)) n p
   group_refused = (stands_exactly s (find s 1965 ref)).1
 
 -- ---- When it is granted, and what it gives
@@ -129,12 +129,12 @@ module _ (s : List ℕ) (ref room : ℕ) where
       let group = group_unstored opens p in (
         (λ e. elim ((list_refused opens 29 p).0 (e, suc-ne-zero 28)) [
           | inl b ↦ inl ((group ref).0 b)
-          | inr (sound, a) ↦ inr (sound, at_unstored opens p a)
+          | inr (named, a) ↦ inr (named, at_unstored opens p a)
         ]),
         (λ h. ((list_refused opens 29 p).1 (elim h [
           | inl u ↦ inl ((group ref).1 u)
-          | inr (sound, a) ↦ inr (
-            sound,
+          | inr (named, a) ↦ inr (
+            named,
             record {
               pair = a.pair;
               pairs = a.pairs;
@@ -178,9 +178,9 @@ module _ (s : List ℕ) (ref room : ℕ) where
 pub pairs_few : (s : List ℕ) (ref room : ℕ) → length (pairs_of s ref room) ≤ 2 * places_in room
 pairs_few s ref room = go (sound_group s (find s group_tag ref))
   where
-    go : (l : Located) → length (entered s (list_from most_groups s) l (places_in room)).pairs ≤ 2 * places_in room
-    go (Refused x) = omega arith
-    go (Plain p o n) = listed_few most_groups s p (part s o n) (places_in room)
+    go : (l : Sound) → length (entered s (list_from most_groups s) l (places_in room)).pairs ≤ 2 * places_in room
+    go (refused n p) = omega arith
+    go (sound x) = listed_few most_groups s x.slot (part s x.offset x.length) (places_in room)
 
 -- members none of which is a group are listed as they stand
 members_plain : (nest : ℕ → ℕ → Listing) (n : ℕ) (xs : List ℕ) → length xs ≡ 2 * n → ((i : ℕ) → i < n → get_or xs (2 * i) 0 ≡ group_tag → ⊥)

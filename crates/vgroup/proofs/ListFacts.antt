@@ -211,7 +211,7 @@ enters_sound more fewer s holder ref left deep sound =
     let one : more - 1 ≡ fewer = omega arith in
     nested_enters s holder ref left more (λ z. omega arith) _ x.2
     ∙ ap (λ k. members_from (nested_from k s (slot_in (find s 1965 ref))) (group_members (part s x.0 x.1)) left) one
-    ∙ ap (λ b. members_from (nested_from fewer s (slot_in (find s 1965 ref))) (group_members b) left) (sym (stands_bytes s (find s 1965 ref) _ _ _ x.2))
+    ∙ ap (λ b. members_from (nested_from fewer s (slot_in (find s 1965 ref))) (group_members b) left) (sym (stands_bytes s (find s 1965 ref) _ x.2))
 
 pub passes_all : (more : ℕ) (s : List ℕ) (holder : ℕ) → Passes more s holder
 unfolding nested_in

@@ -10,6 +10,7 @@ use Rattle.answer.specs.Rules.{Rules, done, rule, FirstBroken}
 use Rattle.answer.proofs.Rules.{judged}
 use Rattle.answer.proofs.Tests.{same?, zero?}
 use Rattle.directory.specs.Lookup.{find}
+use Rattle.storage.specs.Elements.{located_at}
 use Rattle.records.proofs.Readings.{sound_positive}
 use Rattle.vgroup.specs.Groups.{group_fault, group_members}
 use Rattle.vgroup.specs.Listings.{Listing, pair, members_from, entered, nested_from, list_from, places_in, listing_in}
@@ -57,7 +58,7 @@ group_broken s x left n p (inl (e, f, z)) =
     rw (e, f) (suc-ne-zero 21, rw (nested_deep s x.holder x.ref left x.more (omega arith)) (refl, refl))
 group_broken s x left n p (inr (l, b)) =
     let r = (group_goes s (find s 1965 x.ref)).refuses n p b in
-    (sound_positive group_fault s (find s 1965 x.ref) _ r, rw (nested_enters s x.holder x.ref left x.more (λ z. omega arith) _ r) (refl, refl))
+    (sound_positive group_fault s (located_at s (find s 1965 x.ref)) _ _ r, rw (nested_enters s x.holder x.ref left x.more (λ z. omega arith) _ r) (refl, refl))
 
 -- the first rule that is broken at a pair is the refusal
 pair_stops : (s : List ℕ) (Place : Type 0) (x : Pair) (left : ℕ) → Place ↔ (0 < left) → (n p : ℕ) → FirstBroken (pair_rules s Place x) n p
@@ -252,7 +253,7 @@ module _ (s : List ℕ) (ref room : ℕ) where
   named_walks sound =
       let x = (group_goes s (find s 1965 ref)).grants sound in
       ap (λ l. entered s (list_from 16 s) l (places_in room)) x.2
-      ∙ ap (λ b. members_from (nested_from (16 - 1) s slot) (group_members b) (places_in room)) (sym (stands_bytes s (find s 1965 ref) _ _ _ x.2))
+      ∙ ap (λ b. members_from (nested_from (16 - 1) s slot) (group_members b) (places_in room)) (sym (stands_bytes s (find s 1965 ref) _ x.2))
 
   pub listing_whole : Listable s ref room → listing_in s (find s 1965 ref) room ≡ complete (listed_of s ref)
   listing_whole h =
@@ -263,7 +264,7 @@ module _ (s : List ℕ) (ref room : ℕ) where
   pub listing_stops : (n p : ℕ) → ListFault s ref room n p → (n ≡ 0 → ⊥) × Stops (listing_in s (find s 1965 ref) room) n p
   listing_stops n p (inl b) =
       let r = (group_goes s (find s 1965 ref)).refuses n p b in
-      (sound_positive group_fault s (find s 1965 ref) _ r, rw (ap (λ l. entered s (list_from 16 s) l (places_in room)) r) (refl, refl))
+      (sound_positive group_fault s (located_at s (find s 1965 ref)) _ _ r, rw (ap (λ l. entered s (list_from 16 s) l (places_in room)) r) (refl, refl))
   listing_stops n p (inr (sound, f)) =
       let left = places_in room - f.pairs in
       let same : HasPlace room (suc f.pairs) ↔ (0 < left) = ((λ h. omega arith), (λ h. (omega arith, omega arith))) in

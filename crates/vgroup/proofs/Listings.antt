@@ -13,14 +13,16 @@ use Rattle.wire.proofs.Numbers.{put_put, length_put}
 use Rattle.answer.specs.Refusals.{SMALL, DEEP}
 use Rattle.directory.specs.Lookup.{find}
 use Rattle.answer.proofs.Tests.{zero?, test}
-use Rattle.storage.specs.declared.element.Located.{Located}
-use Rattle.storage.specs.declared.element.Located.TheVariants.{Plain, Refused}
+use Rattle.std.specs.Prelude.{Result, Ok, Err}
+use Rattle.answer.specs.declared.Refusal.{Refusal}
+use Rattle.answer.specs.declared.refusals.Rule.TheVariants as rule
+use Rattle.answer.proofs.Answer.{number_positive}
+use Rattle.records.specs.Readings.{Sound, sound, refused}
 use Rattle.wire.specs.Layouts.{read}
 use Rattle.vgroup.specs.Limits.{group_tag}
 use Rattle.vgroup.specs.Groups.{group_members, sound_group}
 use Rattle.vgroup.specs.Listings.{Listing, stopped, pair, followed_by, members_from, entered, nested_from, list_from}
-use Rattle.vgroup.specs.Steps.{Walks}
-use Rattle.vgroup.specs.declared.listing.Walked.{Walked}
+use Rattle.vgroup.specs.Steps.{Tells, Walks}
 use Rattle.vgroup.proofs.Groups.{members_after, members_next, members_none, members_all}
 
 -- ---- Listings are whole pairs, no more than there is place for
@@ -59,9 +61,9 @@ fair_members nested fair (tag ∷ ref ∷ rest) (suc room) =
           (fair_then room (nested ref room) (fair ref room) (members_from nested rest) (fair_members nested fair rest)))
     ]
 
-fair_entered : (s : List ℕ) (inside : ℕ → List ℕ → ℕ → Listing) → ((q : ℕ) (b : List ℕ) (room : ℕ) → Fair room (inside q b room)) → (l : Located) (room : ℕ) → Fair room (entered s inside l room)
-fair_entered s inside fair (Refused x) room = fair_stopped room x.number x.place
-fair_entered s inside fair (Plain q o n) room = fair q (part s o n) room
+fair_entered : (s : List ℕ) (inside : ℕ → List ℕ → ℕ → Listing) → ((q : ℕ) (b : List ℕ) (room : ℕ) → Fair room (inside q b room)) → (l : Sound) (room : ℕ) → Fair room (entered s inside l room)
+fair_entered s inside fair (refused n p) room = fair_stopped room n p
+fair_entered s inside fair (sound x) room = fair x.slot (part s x.offset x.length) room
 
 fair_nested : (more : ℕ) (s : List ℕ) (p ref room : ℕ) → Fair room (nested_from more s p ref room)
 unfolding nested_from
@@ -116,32 +118,24 @@ walk_start s b slot groups room at table₀ n is =
           ∙ ap (λ ms. members_from (nested_from (groups - 1) s slot) ms (room - 0)) (sym (members_all b) ∙ ap (λ k. members_after b k 0) (sym is));
     }
 
--- a walk that stops, with what was listed
-stops : (table₀ : List ℕ) (at : ℕ) (done : List ℕ) (number m : ℕ) (l : Listing) (t : List ℕ) → l ≡ joined done (stopped number 0) → length done ≡ 2 * m → t ≡ put table₀ at done
-    → Walks l at table₀ t (record { pairs = m; number = number; place = 0 })
-stops table₀ at done number m l t q long v =
-    rw q (record { pairs = rw append-nil (sym long); number = refl; place = refl; leaves = rw append-nil v })
-
 module _ {s b : List ℕ} {slot groups room at : ℕ} {table₀ : List ℕ} {n : ℕ} {table : List ℕ} {pairs i : ℕ} (w : Walking s b slot groups room at table₀ n table pairs i) where
   pub walk_long : length table ≡ length table₀
   walk_long = ap length w.leaves ∙ length_put table₀ at w.done
 
   -- all members are past
-  pub walk_ends : i ≡ n → Walks (list_from groups s slot b room) at table₀ table (record { pairs = pairs; number = 0; place = 0 })
+  pub walk_ends : n ≤ i → Walks (list_from groups s slot b room) at table₀ table (Ok pairs)
   unfolding members_from
   walk_ends h =
-      stops table₀ at w.done 0 pairs _ table
-      (w.whole ∙ rw (members_none b n i (omega arith)))
-      w.many w.leaves
+      let is : list_from groups s slot b room ≡ joined w.done (stopped 0 0) = w.whole ∙ rw (members_none b n i h) in
+      rw is (record { tells = (refl, rw append-nil (sym w.many)); leaves = rw append-nil w.leaves })
 
   -- no place is left
-  pub walk_full : i < n → pairs ≡ room → Walks (list_from groups s slot b room) at table₀ table (record { pairs = pairs; number = SMALL; place = 0 })
+  pub walk_full : i < n → pairs ≡ room → Walks (list_from groups s slot b room) at table₀ table (Err (record { rule = rule.Small; place = 0 }))
   unfolding members_from
   walk_full h q =
       let z : room - pairs ≡ 0 = omega arith in
-      stops table₀ at w.done SMALL pairs _ table
-      (w.whole ∙ rw (members_next b n i h, z))
-      w.many w.leaves
+      let is : list_from groups s slot b room ≡ joined w.done (stopped SMALL 0) = w.whole ∙ rw (members_next b n i h, z) in
+      rw is (record { tells = (refl, refl); leaves = rw append-nil w.leaves })
 
 -- ---- A member
 
@@ -153,6 +147,13 @@ pub record Stepped (s b : List ℕ) (slot groups room at : ℕ) (table₀ : List
   pub tag_is : tag ≡ be 2 b (2 + 2 * i)
   pub ref_is : ref ≡ be 2 b (2 + 2 * n + 2 * i)
   pub puts : after ≡ put table (at + 2 * pairs) (tag ∷ ref ∷ [])
+
+pub stepped : {s b : List ℕ} {slot groups room at : ℕ} {table₀ : List ℕ} {n : ℕ} {table : List ℕ} {pairs i tag ref : ℕ} {after : List ℕ}
+    → Walking s b slot groups room at table₀ n table pairs i → i < n → (pairs ≡ room → ⊥)
+    → tag ≡ be 2 b (2 + 2 * i) → ref ≡ be 2 b (2 + 2 * n + 2 * i) → after ≡ put table (at + 2 * pairs) (tag ∷ ref ∷ [])
+    → Stepped s b slot groups room at table₀ n table pairs i tag ref after
+stepped w more some tag_is ref_is puts =
+    record { walk = w; more = more; room_left = omega (arith, w.few, some); tag_is = tag_is; ref_is = ref_is; puts = puts }
 
 module _ {s b : List ℕ} {slot groups room at : ℕ} {table₀ : List ℕ} {n : ℕ} {table : List ℕ} {pairs i tag ref : ℕ} {after : List ℕ}
     (w : Stepped s b slot groups room at table₀ n table pairs i tag ref after) where
@@ -206,11 +207,8 @@ module _ {s b : List ℕ} {slot groups room at : ℕ} {table₀ : List ℕ} {n :
         whole = next false (ne_eqb _ _ o);
       }
 
-  -- a group whose members were listed
-  module _ (g : tag ≡ group_tag) {later : List ℕ} {r : Walked} (walks : Walks inner (at + 2 * (pairs + 1)) after later r) where
-    pub inner_few : r.pairs ≤ left
-    inner_few = let f = fair_nested (groups - 1) s slot ref left in omega (arith, f.1, f.2, walks.pairs)
-
+  -- a group whose members were walked
+  module _ (g : tag ≡ group_tag) {later : List ℕ} {r : Result ℕ Refusal} (walks : Walks inner (at + 2 * (pairs + 1)) after later r) where
     laid_inner : later ≡ put table₀ at (done ++ inner.pairs)
     laid_inner =
         walks.leaves ∙ ap (λ t. put t (at + 2 * (pairs + 1)) inner.pairs) laid
@@ -220,30 +218,34 @@ module _ {s b : List ℕ} {slot groups room at : ℕ} {table₀ : List ℕ} {n :
     pub inner_long : length later ≡ length table₀
     inner_long = ap length laid_inner ∙ length_put table₀ at (done ++ inner.pairs)
 
-    many_inner : length (done ++ inner.pairs) ≡ 2 * (pairs + 1 + r.pairs)
-    many_inner = length-append done inner.pairs ∙ omega (arith, one_more, walks.pairs)
-
-    -- and were refused
-    pub walk_broken : (r.number ≡ 0 → ⊥)
-        → Walks (list_from groups s slot b room) at table₀ later (record { pairs = pairs + 1 + r.pairs; number = r.number; place = r.place })
-    walk_broken z =
+    -- and refused
+    pub walk_broken : (x : Refusal) → r ≡ Err x → Walks (list_from groups s slot b room) at table₀ later (Err x)
+    walk_broken x e =
+        let told : Tells inner (Err x) = rw e at walks.tells in
         let is : list_from groups s slot b room ≡ joined done inner =
-        next true (eq-eqb _ _ g) ∙ ap (joined done) (stays inner (rest (left - length inner.pairs / 2)) (λ q. z (walks.number ∙ q))) in
-        rw is (record { pairs = sym many_inner; number = walks.number; place = walks.place; leaves = laid_inner })
+        next true (eq-eqb _ _ g) ∙ ap (joined done) (stays inner (rest (left - length inner.pairs / 2)) (λ z. number_positive x.rule (sym told.0 ∙ z))) in
+        rw is (record { tells = told; leaves = laid_inner })
 
-    -- or not
-    pub walk_nested : r.number ≡ 0 → Walking s b slot groups room at table₀ n later (pairs + 1 + r.pairs) (i + 1)
-    walk_nested z =
-        let half : left - length inner.pairs / 2 ≡ room - (pairs + 1 + r.pairs) = omega (arith, walks.pairs) in
-        record {
-          upto = omega (arith, w.more);
-          few = omega (arith, inner_few, w.room_left);
-          done = done ++ inner.pairs;
-          many = many_inner;
-          leaves = laid_inner;
-          whole =
-              next true (eq-eqb _ _ g)
-              ∙ ap (λ k. joined done (followed_by inner (rest k))) half
-              ∙ ap (joined done) (goes_on inner (rest (room - (pairs + 1 + r.pairs))) (sym walks.number ∙ z))
-              ∙ regroup done inner.pairs (rest (room - (pairs + 1 + r.pairs)));
-        }
+    -- or listed
+    module _ (m : ℕ) (e : r ≡ Ok m) where
+      told : Tells inner (Ok m)
+      told = rw e at walks.tells
+
+      pub inner_few : m ≤ left
+      inner_few = let f = fair_nested (groups - 1) s slot ref left in omega (arith, f.1, f.2, told.1)
+
+      pub walk_nested : Walking s b slot groups room at table₀ n later (pairs + 1 + m) (i + 1)
+      walk_nested =
+          let half : left - length inner.pairs / 2 ≡ room - (pairs + 1 + m) = omega (arith, told.1) in
+          record {
+            upto = omega (arith, w.more);
+            few = omega (arith, inner_few, w.room_left);
+            done = done ++ inner.pairs;
+            many = length-append done inner.pairs ∙ omega (arith, one_more, told.1);
+            leaves = laid_inner;
+            whole =
+                next true (eq-eqb _ _ g)
+                ∙ ap (λ k. joined done (followed_by inner (rest k))) half
+                ∙ ap (joined done) (goes_on inner (rest (room - (pairs + 1 + m))) told.0)
+                ∙ regroup done inner.pairs (rest (room - (pairs + 1 + m)));
+          }

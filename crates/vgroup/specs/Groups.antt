@@ -1,6 +1,7 @@
 -- Vgroups, tag 1965, after document 01, "Records". Assumes nothing.
-use Rattle.std.specs.Prelude.{ℕ, ◌*◌, ◌/◌, ◌%◌, List, ◌∷◌, ◌++◌, length, leb, eqb}
+use Rattle.std.specs.Prelude.{ℕ, ◌*◌, ◌/◌, ◌%◌, List, ◌∷◌, ◌++◌, length, leb, eqb, Result, Ok, Err}
 use Rattle.answer.specs.Answer.{Answer, grant, refusal, in_room}
+use Rattle.answer.specs.declared.Refusal.{Refusal}
 use Rattle.answer.specs.Search.{must, Hit}
 use Rattle.records.specs.Limits.{most_count}
 use Rattle.answer.specs.Refusals.{RECORD}
@@ -8,16 +9,14 @@ use Rattle.wire.specs.Layouts.{Layout, number, run, read, numbers_at, pack}
 use Rattle.directory.specs.Opening.{opened}
 use Rattle.directory.specs.Lookup.{find}
 use Rattle.storage.specs.Elements.{located_at}
-use Rattle.storage.specs.declared.element.Located.{Located}
-use Rattle.records.specs.Readings.{sound_in, record_at, within}
+use Rattle.records.specs.Readings.{Sound, sound_in, record_at, within}
 use Rattle.vset.specs.Limits.{only_version}
 use Rattle.vgroup.specs.Limits.{group_tag}
 use Rattle.vset.specs.Columns.{rows2, every}
 use Rattle.vset.specs.Tails.{tail, tail_values, tail_numbers, tail_pack_fault}
 use Rattle.vset.specs.declared.tail.Ending.{Ending}
 use Rattle.vgroup.specs.declared.group.Group.{Group}
-use Rattle.vgroup.specs.declared.group.Answered.{Answered}
-use Rattle.vgroup.specs.declared.group.Answered.TheVariants.{Values, Refused}
+use Rattle.vgroup.specs.declared.group.Placed.{Placed}
 
 -- count, all tags, all references, then the tail
 abbrev pub group : Layout Group
@@ -36,12 +35,12 @@ group_members e =
 abbrev pub group_values : ℕ → Group → List ℕ
 group_values start g = g.members ∷ tail_values start g.tail
 
-abbrev pub group_numbers : Answered → Answer
-group_numbers (Values start g) = grant (group_values start g)
-group_numbers (Refused r) = refusal 9 r
+abbrev pub group_numbers : Result Placed Refusal → Answer
+group_numbers (Ok x) = grant (group_values x.start x.group)
+group_numbers (Err r) = refusal 9 r
 
 -- the element of a group that is sound, or the refusal: 11, 12, 15
-abbrev pub sound_group : List ℕ → Hit → Located
+abbrev pub sound_group : List ℕ → Hit → Sound
 sound_group s found = sound_in group_fault s (located_at s found)
 
 unfoldable pub group_at : List ℕ → Hit → ℕ → Answer

@@ -1,17 +1,15 @@
 -- Listing a Vgroup's members and those of the groups among them, after document 01, "Records". Assumes nothing.
-use Rattle.std.specs.Prelude.{ℕ, zero, suc, ◌-◌, ◌/◌, min, List, [], ◌∷◌, ◌++◌, true, false, length, eqb}
+use Rattle.std.specs.Prelude.{ℕ, zero, suc, ◌-◌, ◌/◌, min, List, [], ◌∷◌, ◌++◌, true, false, length, eqb, Result, Ok, Err}
 use Rattle.answer.specs.Refusals.{SMALL, DEEP}
 use Rattle.answer.specs.Search.{Hit}
+use Rattle.answer.specs.declared.Refusal.{Refusal}
 use Rattle.answer.specs.Answer.{Answer, grant, refusal, unless}
 use Rattle.wire.specs.Numbers.{part}
 use Rattle.directory.specs.Opening.{opened}
 use Rattle.directory.specs.Lookup.{find}
-use Rattle.storage.specs.declared.element.Located.{Located}
-use Rattle.storage.specs.declared.element.Located.TheVariants.{Plain, Refused}
+use Rattle.records.specs.Readings.{Sound, sound, refused}
 use Rattle.vgroup.specs.Limits.{group_tag, most_groups, most_pairs}
 use Rattle.vgroup.specs.Groups.{group_members, sound_group}
-use Rattle.vgroup.specs.declared.listing.Listed.{Listed}
-use Rattle.vgroup.specs.declared.listing.Listed.TheVariants as listed
 
 -- what was listed, tag and reference of each pair, up to the first refusal; its number is 0 where there is none
 pub record Listing : Type 0 where
@@ -46,9 +44,9 @@ members_from nested (tag ∷ ref ∷ rest) (suc room) =
     ])
 
 -- a group that is a member: refused, or what is listed inside it, by its slot and its bytes
-abbrev pub entered : List ℕ → (ℕ → List ℕ → ℕ → Listing) → Located → ℕ → Listing
-entered s inside (Refused x) room = stopped x.number x.place
-entered s inside (Plain p offset size) room = inside p (part s offset size) room
+abbrev pub entered : List ℕ → (ℕ → List ℕ → ℕ → Listing) → Sound → ℕ → Listing
+entered s inside (refused n p) room = stopped n p
+entered s inside (sound x) room = inside x.slot (part s x.offset x.length) room
 
 -- a group that is a member of the one of the slot at p, where so many more may be entered: 22 where none, else 11, 12, 15, then its members
 unfoldable pub nested_from : ℕ → List ℕ → ℕ → ℕ → ℕ → Listing
@@ -64,9 +62,9 @@ list_from groups s p e room = members_from (nested_from (groups - 1) s p) (group
 abbrev pub places_in : ℕ → ℕ
 places_in room = min (room / 2) most_pairs
 
-abbrev pub pairs_numbers : Listed → Answer
-pairs_numbers (listed.Pairs n) = grant (n ∷ [])
-pairs_numbers (listed.Refused r) = refusal 1 r
+abbrev pub pairs_numbers : Result ℕ Refusal → Answer
+pairs_numbers (Ok n) = grant (n ∷ [])
+pairs_numbers (Err r) = refusal 1 r
 
 -- the listing of the group at what a lookup found
 abbrev pub listing_in : List ℕ → Hit → ℕ → Listing

@@ -4,6 +4,7 @@ use native.Mathlib.Omega.{arith}
 use mathlib.Core.Path.{◌≡◌, refl, sym, ap, ◌∙◌}
 use mathlib.Core.List.{List, [], ◌∷◌, ◌++◌}
 use lib.ListN.{length, get_or, drop, length-append}
+use Rattle.std.specs.Prelude.{sum}
 use Rattle.wire.specs.Numbers.{be, part, Bytes}
 use Rattle.wire.specs.Layouts.{read, extent, numbers, pack, given, numbers_at, Fits}
 use Rattle.wire.proofs.Layouts.{length_numbers_at, number_at, pack_numbers, PackedAt, packed_at}
@@ -15,12 +16,12 @@ use Rattle.vset.specs.declared.tail.Ending.{Ending}
 use Rattle.vset.proofs.Columns.{append_split, get_or_every, take_column, drop_column, length_every, every_small, length_rows4, rows4_columns, rows4_every}
 use Rattle.vset.proofs.Tails.{Narrow, tail_in, ending_of, tail_given, numbers_tail, given_tail, tail_fits, tail_parts, fault_sound, tail_own}
 use Rattle.vhead.specs.Limits.{most_head_interlace, most_fields}
-use Rattle.vhead.specs.Heads.{names, head, head_in, field_at, fields_from, row_at, fields_of, fields_fault, head_fault, head_fields, name_rows, head_names, names_apart, total, head_bytes, head_pack_fault}
+use Rattle.vhead.specs.Heads.{names, head, head_in, field_at, fields_from, row_at, fields_of, fields_fault, head_fault, head_fields, name_rows, head_names, names_apart, head_bytes, head_pack_fault}
 use Rattle.vhead.specs.declared.head.Head.{Head}
 use Rattle.vhead.specs.declared.head.Start.{Start}
 use Rattle.vhead.proofs.Heads.{started_head, placed_head, same_places, names_place, started_in, placed, head_is, head_ends, all_fields, fields_are, columns_long, names_are}
 use Rattle.vhead.proofs.HeadsPacked.{fault_goes_on, names_after, after_is, head_numbers_of, PackSound}
-use Rattle.vhead.proofs.HeadsRead.{head_fields_lem, head_passed}
+use Rattle.vhead.proofs.HeadsRead.{head_goes_on, head_passed}
 use Rattle.vhead.proofs.HeadsNamed.{parts_at, numbers_names, names_given, names_fit, parts_long, names_same, parts_image, lengths_image, Within}
 
 -- ---- The numbers of a record
@@ -167,7 +168,7 @@ own_passes e sound b =
 
 module _ (b : Start) (rows lengths all name class : List ℕ) (x : Ending)
     (rules : PackSound b rows lengths (length all) (length name) (length class) x.version) where
-  enough : total lengths ≤ length all
+  enough : sum lengths ≤ length all
   enough = omega (arith, rules.sum)
 
   -- where the tail stands, and the record as it is read back
@@ -288,7 +289,7 @@ module _ (b : Start) (rows lengths all name class : List ℕ) (x : Ending)
       sound_back : head_fault e ≡ 0
       sound_back =
           let c = recovered in
-          head_fields_lem e ends_inside (ap (λ h. h.tail.version) is_packed ∙ rules.tail_sound.version_right)
+          head_goes_on _ _ refl ends_inside (ap (λ h. h.tail.version) is_packed ∙ rules.tail_sound.version_right)
           (rw (ap (λ h. h.interlace) is_packed) rules.interlace)
           (rw (ap (λ h. h.fields) is_packed) rules.few)
           ∙ (ap (λ h. fields_fault h.record_size (fields_of e h)) is_packed

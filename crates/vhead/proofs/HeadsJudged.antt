@@ -7,15 +7,17 @@ use mathlib.Core.Path.{◌≡◌, refl, sym, ap, ◌∙◌, subst}
 use mathlib.Core.List.{List, [], ◌∷◌}
 use mathlib.Core.Bool.{Bool, true, false, ◌&&◌}
 use mathlib.Core.Logic.{inl, inr}
-use lib.ListN.{length, get_or, drop, drop_of_length-le}
+use lib.ListN.{length, get_or, drop}
 use lib.Seq.{drop-cons}
 use lib.Dec.{leb, eqb}
 use borrow.Author.Tests.{eqb-true, leb-true}
+use Rattle.std.specs.Prelude.{sum}
+use Rattle.std.proofs.lemmas.List.Sums.{sum_by-cons}
 use Rattle.answer.proofs.Tests.{zero?, and_split}
 use Rattle.answer.proofs.Search.{passed}
 use Rattle.records.specs.Types.{width_of}
 use Rattle.records.proofs.Types.{same_width}
-use Rattle.vhead.specs.Heads.{fields_from, ordered, typed, sized, fields_fault, total}
+use Rattle.vhead.specs.Heads.{fields_from, ordered, typed, sized, fields_fault}
 use Rattle.vhead.specs.HeadRules.{Alike}
 use Rattle.vhead.specs.Steps.{judge, judge_all, verdict}
 use Rattle.vhead.specs.declared.field.Numbers.{Numbers}
@@ -158,13 +160,12 @@ sound_sized rs field n i z l =
 
 -- ---- Sums of lengths
 
-pub total_next : (lengths : List ℕ) (i : ℕ) → i < length lengths → total (drop i lengths) ≡ get_or lengths i 0 + total (drop (i + 1) lengths)
-unfolding total
-total_next lengths i h = rw (add-one, drop-cons lengths i 0 h)
+-- that of a list of a first and the rest
+pub sum_first : (n : ℕ) (ns : List ℕ) → sum (n ∷ ns) ≡ n + sum ns
+sum_first n ns = sum_by-cons (λ x. x) n ns
 
-pub total_none : (lengths : List ℕ) (i : ℕ) → length lengths ≤ i → total (drop i lengths) ≡ 0
-unfolding total
-total_none lengths i h = rw (drop_of_length-le lengths {i = i} h)
+pub sum_next : (lengths : List ℕ) (i : ℕ) → i < length lengths → sum (drop i lengths) ≡ get_or lengths i 0 + sum (drop (i + 1) lengths)
+sum_next lengths i h = rw (add-one, drop-cons lengths i 0 h) (sum_first (get_or lengths i 0) (drop (suc i) lengths))
 
 -- ---- Types of either byte order
 

@@ -6,6 +6,7 @@ use mathlib.Core.Path.{◌≡◌, refl, sym, ap, ◌∙◌}
 use mathlib.Core.List.{List, [], ◌∷◌, ◌++◌, append_assoc}
 use lib.ListN.{length, get_or, take, drop, length-append, length-drop, take-append-drop}
 use lib.Seq.{take_at, drop_at, length-take-le, take-take, drop-drop}
+use Rattle.std.specs.Prelude.{sum}
 use Rattle.wire.specs.Numbers.{be, part, Bytes}
 use Rattle.wire.proofs.Numbers.{bytes_take, bytes_drop, length_part}
 use Rattle.directory.specs.Slots.{content_at}
@@ -16,7 +17,8 @@ use Rattle.vset.specs.Columns.{every}
 use Rattle.vset.specs.Tails.{names_end}
 use Rattle.vset.proofs.Columns.{append_split, every_drop}
 use Rattle.vset.proofs.Tails.{names_low}
-use Rattle.vhead.specs.Heads.{names, name_rows, names_apart, total}
+use Rattle.vhead.specs.Heads.{names, name_rows, names_apart}
+use Rattle.vhead.proofs.HeadsJudged.{sum_first}
 use Rattle.vhead.proofs.HeadsPacked.{length_rest, names_after}
 
 -- ---- Lists
@@ -70,22 +72,24 @@ module _ {A : Type 0} (then : Layout A) where
       rw (lengths_next first k n more, take_at own (parts_at e more) k l, drop_at own (parts_at e more) k l)
       (ap (λ l. k ∷ l) (rw (o, r) (sym (append_assoc own rest (numbers then e (names_end e n next))))))
 
-  pub names_given : (lengths all more : List ℕ) (at : ℕ) → total lengths ≤ length all
+  pub names_given : (lengths all more : List ℕ) (at : ℕ) → sum lengths ≤ length all
       → given (names (length lengths) then) (names_apart lengths all ++ more) at ≡ given then more (names_after at lengths)
-  unfolding given names names_apart names_after total
+  unfolding given names names_apart names_after
   names_given [] all more at h = refl
   names_given (n ∷ ns) all more at h =
+      let e = sum_first n ns in
       let own = take n all in
       let rest = names_apart ns (drop n all) in
       let k : length own ≡ n = length-take-le n all (omega arith) in
       ap (λ l. given (names (length ns) then) l (at + 2 + 1 * n)) (ap (drop n) (append_assoc own rest more) ∙ drop_at own (rest ++ more) n k)
-      ∙ names_given ns (drop n all) more (at + 2 + 1 * n) (length_rest n (total ns) all h)
+      ∙ names_given ns (drop n all) more (at + 2 + 1 * n) (length_rest n (sum ns) all (omega arith))
 
-  pub names_fit : (lengths all more : List ℕ) (at : ℕ) → Bytes all → ((i : ℕ) → get_or lengths i 0 < 65536) → total lengths ≤ length all
+  pub names_fit : (lengths all more : List ℕ) (at : ℕ) → Bytes all → ((i : ℕ) → get_or lengths i 0 < 65536) → sum lengths ≤ length all
       → Fits then more (names_after at lengths) → Fits (names (length lengths) then) (names_apart lengths all ++ more) at
-  unfolding names names_apart names_after total
+  unfolding names names_apart names_after
   names_fit [] all more at b s h f = f
   names_fit (n ∷ ns) all more at b s h f =
+      let e = sum_first n ns in
       let own = take n all in
       let rest = names_apart ns (drop n all) in
       let k : length own ≡ n = length-take-le n all (omega arith) in
@@ -95,12 +99,12 @@ module _ {A : Type 0} (then : Layout A) where
         (
           omega (arith, length-append own (rest ++ more)),
           bytes_take n all b,
-          names_fit ns (drop n all) more (at + 2 + 1 * n) (bytes_drop n all b) (λ i. s (suc i)) (length_rest n (total ns) all h) f,
+          names_fit ns (drop n all) more (at + 2 + 1 * n) (bytes_drop n all b) (λ i. s (suc i)) (length_rest n (sum ns) all (omega arith)) f,
         ),
       )
 
-pub parts_long : (n : ℕ) (e : List ℕ) (at : ℕ) → names_end e n at ≤ length e → let rows = name_rows 0 e n at in length (parts_at e rows) ≡ total (every 1 2 n rows)
-unfolding names_end name_rows parts_at total
+pub parts_long : (n : ℕ) (e : List ℕ) (at : ℕ) → names_end e n at ≤ length e → let rows = name_rows 0 e n at in length (parts_at e rows) ≡ sum (every 1 2 n rows)
+unfolding names_end name_rows parts_at
 parts_long zero e at h = rw (lengths_none [])
 parts_long (suc n) e at h =
     let k = be 2 e at in
@@ -108,18 +112,20 @@ parts_long (suc n) e at h =
     let more = name_rows 0 e n next in
     let first = 0 + (at + 2) in
     let inside : first + k ≤ length e = omega (arith, names_low n e next) in
-    rw (lengths_next first k n more) (length-append (part e first k) (parts_at e more) ∙ rw (length_part e first k inside, parts_long n e next h))
+    rw (lengths_next first k n more) (length-append (part e first k) (parts_at e more) ∙ rw (length_part e first k inside, parts_long n e next h) (sym (sum_first k (every 1 2 n more))))
 
 -- the numbers of names tell the names
-pub names_same : (ls ms all every_one more rest : List ℕ) → length ls ≡ length ms → length all ≡ total ls → length every_one ≡ total ms
+pub names_same : (ls ms all every_one more rest : List ℕ) → length ls ≡ length ms → length all ≡ sum ls → length every_one ≡ sum ms
     → names_apart ls all ++ more ≡ names_apart ms every_one ++ rest → (ls ≡ ms) × (all ≡ every_one) × (more ≡ rest)
-unfolding names_apart total
+unfolding names_apart
 names_same [] [] [] [] more rest l a b q = (refl, refl, q)
 names_same [] [] [] (x ∷ every_one) more rest l a b q = absurd (omega arith)
 names_same [] [] (x ∷ all) every_one more rest l a b q = absurd (omega arith)
 names_same [] (m ∷ ms) all every_one more rest l a b q = absurd (omega arith)
 names_same (n ∷ ns) [] all every_one more rest l a b q = absurd (omega arith)
 names_same (n ∷ ns) (m ∷ ms) all every_one more rest l a b q =
+    let sn = sum_first n ns in
+    let sm = sum_first m ms in
     let e : n ≡ m = ap (λ l. get_or l 0 0) q in
     let us = names_apart ns (drop n all) in
     let vs = names_apart ms (drop m every_one) in

@@ -3,17 +3,16 @@ use Prim.Native.Nat.{ℕ, ◌+◌, ◌*◌, ◌/◌, ◌<◌, ◌≤◌, min, �
 use native.Mathlib.Omega.{arith}
 use mathlib.Core.Path.{◌≡◌, refl, sym, ap, ◌∙◌, subst}
 use mathlib.Core.List.{List}
-use mathlib.Core.Bool.{true}
 use lib.ListN.{length, get_or, take, drop, length-take, length-drop, take-append-drop}
 use lib.Seq.{sets, take-append_seam}
 use lib.Dec.{leb, eqb}
-use borrow.Author.Tests.{leb-true, le-leb, lt-leb, eqb-true, eq-eqb, ne_eqb}
-use Rattle.answer.specs.Refusals.{TOO_LONG, SMALL, RECORD}
+use borrow.Author.Tests.{leb-true, le-leb, lt-leb, eqb-true, eq-eqb}
+use Rattle.answer.specs.Refusals.{TOO_LONG, RECORD}
 use Rattle.answer.specs.Answer.{Answer, grant, refuse, refusal, unless_with, unless, in_room}
 use Rattle.answer.specs.Search.{Hit}
 use Rattle.answer.specs.declared.Refusal.{Refusal}
 use Rattle.answer.proofs.Search.{must_holds, must_fails, passed}
-use Rattle.answer.proofs.Answer.{unless_passes, unless_passed, refusal_is, refusal_number, in_room_enough, in_room_short, in_room_passed}
+use Rattle.answer.proofs.Answer.{unless_passes, unless_passed, refused_is, refusal_is, in_room_enough, in_room_short, in_room_passed}
 use Rattle.answer.proofs.Lent.{refuses}
 use Rattle.wire.specs.Numbers.{part, be}
 use Rattle.wire.specs.Layouts.{extent, read}
@@ -22,52 +21,37 @@ use Rattle.directory.specs.Lookup.{find, find_in}
 use Rattle.directory.specs.Steps.Opens.{Opens}
 use Rattle.directory.proofs.Rules.{opens_kept}
 use Rattle.directory.proofs.Opens.{opened_goes, opened_passed, opened_find, opened_answer, opened_does}
-use Rattle.storage.specs.Elements.{located_at, refusal_in, on_plain, offset_in, start_of}
-use Rattle.storage.specs.declared.element.Located.{Located}
-use Rattle.storage.specs.declared.element.Located.TheVariants as located
-use Rattle.records.specs.Readings.{sound_in, record_at, record_bytes}
-use Rattle.records.proofs.Readings.{sound_plain, sound_positive, reads_refusal, reads_broken, reads_passed, reads_positive, reads_bytes, reads_list}
+use Rattle.storage.specs.Elements.{Located, located_at, offset_in, start_of}
+use Rattle.std.specs.Prelude.{Result, Ok, Err, replicate}
+use Rattle.answer.specs.Refusals.{number_of}
+use Rattle.answer.specs.declared.refusals.Rule.{Rule}
+use Rattle.answer.specs.declared.refusals.Rule.TheVariants as rule
+use Rattle.storage.specs.declared.element.Part.{Part}
+use Rattle.records.specs.Readings.{Sound, sound, refused as stopped, on_sound, sound_in, record_at, record_bytes}
+use Rattle.records.proofs.Readings.{sound_plain, sound_positive, reads_refusal, reads_broken, reads_passed, reads_bytes, reads_list}
 use Rattle.vset.specs.Limits.{only_version}
 use Rattle.vset.specs.Tails.{names_end}
 use Rattle.vset.proofs.Tails.{tail_in, names_low, names_split}
 use Rattle.vhead.specs.Limits.{head_tag, most_head_interlace, most_fields}
-use Rattle.vhead.specs.Heads.{head, head_in, fields_of, fields_fault, head_fault, head_fields, head_names, head_values, head_numbers, head_at, head_within, unless_long, ReadsHead, named_field}
+use Rattle.vhead.specs.Heads.{head, head_in, field_at, fields_from, fields_of, fields_fault, head_fault, head_fields, head_names, head_values, head_numbers, head_at, head_within, unless_long, ReadsHead, named_field}
 use Rattle.vhead.specs.Steps.{HeadHeld, Held}
 use Rattle.vhead.specs.declared.head.Head.{Head}
-use Rattle.vhead.specs.declared.head.Answered.{Answered}
-use Rattle.vhead.specs.declared.head.Answered.TheVariants.{Values, Refused}
+use Rattle.vhead.specs.declared.head.Found.{Found}
 use Rattle.vhead.proofs.Heads.{placed, head_ends, names_are, length_names, length_fields, head_is, fields_count}
 
 -- ---- The rules of a record
 
 module _ (e : List ℕ) where
-  pub head_long : length e < (head_in e).tail.end → head_fault e ≡ RECORD
+  -- a head that was read of it, and breaks no rule but those of fields
+  pub head_goes_on : (h : Head) → h ≡ head_in e → h.tail.end ≤ length e → h.tail.version ≡ only_version → h.interlace ≤ most_head_interlace → h.fields ≤ most_fields
+      → head_fault e ≡ fields_fault h.record_size (fields_from (field_at e (head_in e)) h.fields 0)
   unfolding head_fault
-  head_long h = must_fails _ RECORD _ (lt-leb (extent head e 0) (length e) (omega (arith, head_ends e)))
-
-  module _ (l : (head_in e).tail.end ≤ length e) where
-    within_bytes : leb (extent head e 0) (length e) ≡ true
-    within_bytes = le-leb (extent head e 0) (length e) (omega (arith, head_ends e))
-
-    pub head_version : ((head_in e).tail.version ≡ only_version → ⊥) → head_fault e ≡ RECORD
-    unfolding head_fault
-    head_version h = must_holds _ RECORD _ within_bytes ∙ must_fails _ RECORD _ (ne_eqb _ _ h)
-
-    module _ (v : (head_in e).tail.version ≡ only_version) where
-      pub head_interlace : most_head_interlace < (head_in e).interlace → head_fault e ≡ RECORD
-      unfolding head_fault
-      head_interlace h = must_holds _ RECORD _ within_bytes ∙ must_holds _ RECORD _ (eq-eqb _ _ v) ∙ must_fails _ RECORD _ (lt-leb _ _ h)
-
-      module _ (i : (head_in e).interlace ≤ most_head_interlace) where
-        pub head_many : most_fields < (head_in e).fields → head_fault e ≡ RECORD
-        unfolding head_fault
-        head_many h =
-            must_holds _ RECORD _ within_bytes ∙ must_holds _ RECORD _ (eq-eqb _ _ v) ∙ must_holds _ RECORD _ (le-leb _ _ i) ∙ must_fails _ RECORD _ (lt-leb _ _ h)
-
-        pub head_fields_lem : (head_in e).fields ≤ most_fields → head_fault e ≡ fields_fault (head_in e).record_size (fields_of e (head_in e))
-        unfolding head_fault
-        head_fields_lem h =
-            must_holds _ RECORD _ within_bytes ∙ must_holds _ RECORD _ (eq-eqb _ _ v) ∙ must_holds _ RECORD _ (le-leb _ _ i) ∙ must_holds _ RECORD _ (le-leb _ _ h)
+  head_goes_on h parsed l v i m =
+      must_holds _ RECORD _ (le-leb (extent head e 0) (length e) (omega (arith, head_ends e, ap (λ x. x.tail.end) parsed)))
+      ∙ must_holds _ RECORD _ (eq-eqb _ _ (rw parsed at v))
+      ∙ must_holds _ RECORD _ (le-leb _ _ (rw parsed at i))
+      ∙ must_holds _ RECORD _ (le-leb _ _ (rw parsed at m))
+      ∙ ap (λ x. fields_fault x.record_size (fields_from (field_at e (head_in e)) x.fields 0)) (sym parsed)
 
   -- a record that breaks no rule
   pub record HeadSound : Type 0 where
@@ -134,46 +118,46 @@ short_opened s blocks o k answer = long_passes k s answer (opens_kept s o.sound)
 
 -- what is found
 module _ (s : List ℕ) (found : Hit) (room : ℕ) where
-  abbrev pub Finds : Answered → Type 0
+  abbrev pub Finds : Result Found Refusal → Type 0
   Finds r = (head_numbers r ≡ unless_long 12 s (head_at s found room)) × Held s found room r
 
-  pub too_long : most_bytes < length s → Finds (Refused (record { number = TOO_LONG; place = 0 }))
-  too_long h = (sym (long_stops 12 s _ h), λ z. omega arith)
+  pub too_long : most_bytes < length s → Finds (Err (record { rule = rule.TooLong; place = 0 }))
+  too_long h = (sym (long_stops 12 s _ h), tt)
 
   module _ (short : length s ≤ most_bytes) (l : Located) (is : l ≡ located_at s found) where
-    refused : (r : Refusal) → head_at s found room ≡ refusal 12 r → (r.number ≡ 0 → ⊥) → Finds (Refused r)
-    refused r e z = (sym (long_passes 12 s _ short ∙ e), z)
+    refused : (r : Refusal) → head_at s found room ≡ refusal 12 r → Finds (Err r)
+    refused r e = (sym (long_passes 12 s _ short ∙ e), tt)
 
-    pub unlocated : (x : Refusal) → l ≡ located.Refused x → (r : Refusal) → r ≡ refusal_in l → Finds (Refused r)
+    pub unlocated : (r : Refusal) → l ≡ Err r → Finds (Err r)
     unfolding head_at
-    unlocated x e r taken = refused r (reads_refusal 12 s found head_fault _ l is x e r taken) (reads_positive s found l is x e r taken)
+    unlocated r e = refused r (reads_refusal 12 s found head_fault _ l is r e)
 
     -- the bytes e of an element
-    module _ (p o n : ℕ) (plain : l ≡ located.Plain p o n) (e : List ℕ) (of : e ≡ part s o n) where
-      pub broken : (k : ℕ) → k ≡ head_fault e → (k ≡ 0 → ⊥) → Finds (Refused (record { number = k; place = p }))
+    module _ (x : Part) (plain : l ≡ Ok x) (e : List ℕ) (of : e ≡ part s x.offset x.length) where
+      pub broken : (r : Rule) → number_of r ≡ head_fault e → Finds (Err (record { rule = r; place = x.slot }))
       unfolding head_at
-      broken k q z = refused _ (reads_broken 12 s found head_fault _ l is p o n plain e of k q z) z
+      broken r q = refused _ (reads_broken 12 s found head_fault _ l is x plain e of r q)
 
       module _ (sound : head_fault e ≡ 0) (h : Head) (parsed : h ≡ head_in e) where
-        goes : head_at s found room ≡ in_room 12 (leb h.fields room) (grant (head_values o h))
+        goes : head_at s found room ≡ in_room 12 (leb h.fields room) (grant (head_values x.offset h))
         unfolding head_at
         goes =
-            reads_passed 12 s found head_fault _ l is p o n plain e of sound
-            ∙ ap (λ x. in_room 12 (leb x.fields room) (grant (head_values o x))) (sym parsed)
+            reads_passed 12 s found head_fault _ l is x plain e of sound
+            ∙ ap (λ y. in_room 12 (leb y.fields room) (grant (head_values x.offset y))) (sym parsed)
 
-        pub small : room < h.fields → Finds (Refused (record { number = SMALL; place = 0 }))
-        small m = refused (record { number = SMALL; place = 0 }) (goes ∙ in_room_short 12 _ _ (lt-leb _ _ m)) (λ z. omega arith)
+        pub small : room < h.fields → Finds (Err (record { rule = rule.Small; place = 0 }))
+        small m = refused (record { rule = rule.Small; place = 0 }) (goes ∙ in_room_short 12 _ _ (lt-leb _ _ m))
 
-        pub finds : h.fields ≤ room → Finds (Values o (length e) h)
+        pub finds : h.fields ≤ room → Finds (Ok (record { start = x.offset; size = length e; head = h }))
         finds m =
             let k = head_passed e sound in
-            let own : part s o (length e) ≡ e = ap (λ x. part s o (length x)) of ∙ part_own s o n ∙ sym of in (
+            let own : part s x.offset (length e) ≡ e = ap (λ y. part s x.offset (length y)) of ∙ part_own s x.offset x.length ∙ sym of in (
               sym (long_passes 12 s _ short ∙ goes ∙ in_room_enough 12 _ _ (le-leb _ _ m)),
               record {
                 short = short;
-                inside = sound_inside s o n e of sound;
+                inside = sound_inside s x.offset x.length e of sound;
                 starts = ap offset_in (sym is ∙ plain);
-                bytes_are = reads_bytes s found l is p o n plain ∙ sym of ∙ sym own;
+                bytes_are = reads_bytes s found l is x plain ∙ sym of ∙ sym own;
                 parsed = parsed ∙ ap head_in (sym own);
                 last = rw parsed k.inside;
                 few = rw parsed k.few;
@@ -182,7 +166,7 @@ module _ (s : List ℕ) (found : Hit) (room : ℕ) where
             )
 
 -- in an image that was opened
-pub head_found_opened : (s : List ℕ) (blocks ref room : ℕ) → Opens s blocks → (r : Answered) → Finds s (find_in s blocks head_tag ref) room r
+pub head_found_opened : (s : List ℕ) (blocks ref room : ℕ) → Opens s blocks → (r : Result Found Refusal) → Finds s (find_in s blocks head_tag ref) room r
     → (head_numbers r ≡ head_within s ref room) × Held s (find s head_tag ref) room r
 unfolding head_within
 head_found_opened s blocks ref room o r f = (
@@ -198,17 +182,16 @@ module _ (s : List ℕ) (found : Hit) (fields names : List ℕ) (room : ℕ) (ro
   pub enough : (n : ℕ) → n ≤ room → (4 * n ≤ length fields) × (2 * n ≤ length names)
   enough n h = (omega (arith, rooms), omega (arith, rooms))
 
-  module _ (r : Answered) (answers : head_numbers r ≡ unless_long 12 s (head_at s found room)) where
+  module _ (r : Result Found Refusal) (answers : head_numbers r ≡ unless_long 12 s (head_at s found room)) where
     same : listing ≡ head_numbers r
     same = sym (answers ∙ ap (λ n. unless_long 12 s (head_at s found n)) rooms)
 
-    pub left : (x : Refusal) → r ≡ Refused x → Held s found room r → ReadsHead listing s found fields fields names names (head_numbers r)
-    left x e held =
-        let positive : Held s found room (Refused x) = rw e at held in
-        let is = same ∙ ap head_numbers e ∙ refusal_is 12 x positive in
-        rw e (refuses _ _ fields 12 x is positive, refuses _ _ names 12 x is positive)
+    pub left : (x : Refusal) → r ≡ Err x → ReadsHead listing s found fields fields names names (refusal 12 x)
+    left x e =
+        let is = same ∙ ap head_numbers e ∙ refusal_is 12 x in
+        (refuses _ _ fields 12 x is, refuses _ _ names 12 x is)
 
-    module _ (start size : ℕ) (h : Head) (is : r ≡ Values start size h) (held : HeadHeld s found room start size h) (e : List ℕ) (of : e ≡ part s start size) where
+    module _ (start size : ℕ) (h : Head) (is : r ≡ Ok (record { start = start; size = size; head = h })) (held : HeadHeld s found room start size h) (e : List ℕ) (of : e ≡ part s start size) where
       pub listed : (after also : List ℕ) → after ≡ sets fields 0 (head_fields e) → also ≡ sets names 0 (head_names start e)
           → ReadsHead listing s found fields after names also (grant (head_values start h))
       listed after also q t =
@@ -244,13 +227,15 @@ names_inside s found room start h q = go (sound_in head_fault s (located_at s fo
     answer : ℕ → List ℕ → Answer
     answer at e = in_room 12 (leb (head_in e).fields room) (grant (head_values at (head_in e)))
 
-    go : (l : Located) → sound_in head_fault s (located_at s found) ≡ l → (start + h.tail.name ≤ length s) × (start + h.tail.class ≤ length s)
-    go (located.Refused x) is = absurd (sound_positive head_fault s found x is (sym (refusal_number 12 x) ∙ ap (λ a. a.number) (sym (ap (on_plain 12 (λ p o n. answer o (part s o n))) is) ∙ q)))
-    go (located.Plain p o n) is =
-        let e = part s o n in
-        let granted : answer o e ≡ grant (head_values start h) = sym (ap (on_plain 12 (λ p o n. answer o (part s o n))) is) ∙ q in
+    go : (l : Sound) → sound_in head_fault s (located_at s found) ≡ l → (start + h.tail.name ≤ length s) × (start + h.tail.class ≤ length s)
+    go (stopped n p) is =
+        let positive = sound_positive head_fault s (located_at s found) n p is in
+        absurd (positive (ap (λ a. a.number) (sym (refused_is (replicate 12 0) n p positive) ∙ sym (ap (on_sound 12 (λ p o n. answer o (part s o n))) is) ∙ q)))
+    go (sound x) is =
+        let e = part s x.offset x.length in
+        let granted : answer x.offset e ≡ grant (head_values start h) = sym (ap (on_sound 12 (λ p o n. answer o (part s o n))) is) ∙ q in
         let same = sym granted ∙ (in_room_passed 12 _ _ (ap (λ a. a.number) granted)).1 in
-        let t = places_inside s o n e refl (sound_plain head_fault s (located_at s found) p o n is).1 in
+        let t = places_inside s x.offset x.length e refl (sound_plain head_fault s (located_at s found) x is).1 in
         (omega (arith, ap (λ x. get_or x.values 4 0) same, t.0), omega (arith, ap (λ x. get_or x.values 6 0) same, t.1))
 
 pub found_names : (s : List ℕ) (found : Hit) (room start : ℕ) (h : Head) → unless_long 12 s (head_at s found room) ≡ grant (head_values start h)

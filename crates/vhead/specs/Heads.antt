@@ -1,5 +1,5 @@
 -- Heads of Vdatas, tag 1962, after document 01, "Records". Assumes nothing.
-use Rattle.std.specs.Prelude.{ℕ, zero, suc, ◌+◌, ◌*◌, ◌/◌, min, List, [], ◌∷◌, ◌++◌, Bool, true, ◌&&◌, length, get_or, take, drop, leb, eqb}
+use Rattle.std.specs.Prelude.{ℕ, zero, suc, ◌+◌, ◌*◌, ◌/◌, min, List, [], ◌∷◌, ◌++◌, Bool, true, ◌&&◌, length, get_or, take, drop, leb, eqb, sum, Result, Ok, Err}
 use Rattle.wire.specs.Numbers.{be}
 use Rattle.answer.specs.Answer.{Answer, grant, refusal, unless, in_room}
 use Rattle.answer.specs.Lent.{Does}
@@ -21,8 +21,8 @@ use Rattle.vhead.specs.declared.field.Numbers.{Numbers}
 use Rattle.vhead.specs.declared.head.Head.{Head}
 use Rattle.vhead.specs.declared.head.Start.{Start}
 use Rattle.vhead.specs.declared.head.NamedField.{NamedField}
-use Rattle.vhead.specs.declared.head.Answered.{Answered}
-use Rattle.vhead.specs.declared.head.Answered.TheVariants.{Values, Refused}
+use Rattle.answer.specs.declared.Refusal.{Refusal}
+use Rattle.vhead.specs.declared.head.Found.{Found}
 
 -- for each field a name length and name
 unfoldable pub names : {A : Type 0} → ℕ → Layout A → Layout A
@@ -132,9 +132,9 @@ head_names start e = let h = head_in e in name_rows start e h.fields h.names
 abbrev pub head_values : ℕ → Head → List ℕ
 head_values start h = h.interlace ∷ h.records ∷ h.record_size ∷ h.fields ∷ tail_values start h.tail
 
-abbrev pub head_numbers : Answered → Answer
-head_numbers (Values start size h) = grant (head_values start h)
-head_numbers (Refused r) = refusal 12 r
+abbrev pub head_numbers : Result Found Refusal → Answer
+head_numbers (Ok x) = grant (head_values x.start x.head)
+head_numbers (Err r) = refusal 12 r
 
 -- where there is room for so many fields
 unfoldable pub head_at : List ℕ → Hit → ℕ → Answer
@@ -173,10 +173,6 @@ unfoldable pub names_apart : List ℕ → List ℕ → List ℕ
 names_apart [] all = []
 names_apart (n ∷ ns) all = n ∷ (take n all ++ names_apart ns (drop n all))
 
-unfoldable pub total : List ℕ → ℕ
-total [] = 0
-total (n ∷ ns) = n + total ns
-
 -- the bytes of a head: rows of four numbers a field, the lengths of their names, the names one after the other, then name and class
 unfoldable pub head_bytes : Start → List ℕ → List ℕ → List ℕ → List ℕ → List ℕ → Ending → List ℕ
 head_bytes b rows lengths all name class x =
@@ -189,7 +185,7 @@ unfoldable pub head_pack_fault : Start → List ℕ → List ℕ → ℕ → ℕ
 head_pack_fault b rows lengths all name class version =
     must (leb (length lengths) most_fields) RECORD
     (must (eqb (length rows) (4 * length lengths)) RECORD
-    (must (eqb all (total lengths)) RECORD
+    (must (eqb all (sum lengths)) RECORD
     (must (leb b.interlace most_head_interlace) RECORD
     (tail_pack_fault name class version
     (fields_fault b.record_size (fields_in rows (length lengths)))))))

@@ -1,10 +1,11 @@
 -- What the functions behind the calls take and leave. Assumes nothing.
-use Rattle.std.specs.Prelude.{ℕ, ◌+◌, ◌*◌, ◌<◌, ◌≤◌, ◌≡◌, List, [], ◌∷◌, ◌++◌, ◌&&◌, length, take, drop, leb, eqb}
+use Rattle.std.specs.Prelude.{ℕ, ◌+◌, ◌*◌, ◌<◌, ◌≤◌, ◌≡◌, List, [], ◌∷◌, ◌++◌, ◌&&◌, length, take, drop, leb, eqb, sum, Result, Ok, Err}
 use Rattle.wire.specs.Numbers.{bytes, part}
 use Rattle.directory.specs.Limits.{most_bytes}
 use Rattle.answer.specs.Search.{must, Hit}
 use Rattle.answer.specs.Refusals.{RECORD, TYPE}
 use Rattle.wire.specs.Layouts.{bytes_each}
+use Rattle.records.specs.Limits.{most_count}
 use Rattle.records.specs.Readings.{record_bytes}
 use Rattle.vhead.specs.Limits.{most_fields}
 use Rattle.vset.specs.Columns.{every}
@@ -15,8 +16,8 @@ use Rattle.vhead.specs.declared.field.Numbers.{Numbers}
 use Rattle.vhead.specs.declared.head.Start.{Start}
 use Rattle.vhead.specs.declared.head.Judged.{Judged}
 use Rattle.vhead.specs.declared.head.Head.{Head}
-use Rattle.vhead.specs.declared.head.Answered.{Answered}
-use Rattle.vhead.specs.declared.head.Answered.TheVariants.{Values, Refused}
+use Rattle.answer.specs.declared.Refusal.{Refusal}
+use Rattle.vhead.specs.declared.head.Found.{Found}
 
 -- the numbers of a field have 16 bits
 pub record Narrow (f : Numbers) : Type 0 where
@@ -41,6 +42,14 @@ judge_all j (f ∷ fs) = judge_all (judge j f) fs
 
 unfoldable pub verdict : Judged → ℕ → ℕ
 verdict j record_size = must j.orders RECORD (must j.types TYPE (must (j.sizes && eqb record_size j.sum) RECORD 0))
+
+-- how long the parts of a head are that break no rule of packing
+pub record Packable (lengths : List ℕ) (names name class : ℕ) : Type 0 where
+  pub few : length lengths ≤ most_fields
+  pub own : names ≡ sum lengths
+  pub low : names ≤ 16777216
+  pub name_short : name ≤ most_count
+  pub class_short : class ≤ most_count
 
 -- the numbers that a head with so many fields starts with
 abbrev pub start_bytes : Start → ℕ → List ℕ
@@ -70,6 +79,6 @@ pub record HeadHeld (s : List ℕ) (found : Hit) (room start size : ℕ) (h : He
   pub few : h.fields ≤ most_fields
   pub fits : h.fields ≤ room
 
-abbrev pub Held : List ℕ → Hit → ℕ → Answered → Type 0
-Held s found room (Values start size h) = HeadHeld s found room start size h
-Held s found room (Refused r) = r.number ≡ 0 → ⊥
+abbrev pub Held : List ℕ → Hit → ℕ → Result Found Refusal → Type 0
+Held s found room (Ok x) = HeadHeld s found room x.start x.size x.head
+Held s found room (Err r) = Unit {0}

@@ -1,5 +1,5 @@
 // The four numbers of a Vdata field.
-#[derive(Clone, Copy)]
+#[derive(Clone, Copy, PartialEq, Eq)]
 pub struct Numbers {
     pub code: usize,
     pub size: usize,

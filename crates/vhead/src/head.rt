@@ -1,6 +1,7 @@
 // Heads of Vdatas, tag 1962.
-ghost use Rattle.std.specs.Prelude.{◌≡◌, ◌+◌, ◌*◌, ◌/◌, ◌≤◌, ◌<◌, min, ◌&&◌, eqb, length};
+ghost use Rattle.std.specs.Prelude.{◌≡◌, ℕ, ◌+◌, ◌*◌, ◌/◌, ◌≤◌, ◌<◌, min, ◌&&◌, eqb, length, sum, OnOk};
 ghost use Rattle.std.proofs.lemmas.List.Edits.{sets};
+ghost use Rattle.answer.specs.Refusals.{fault_of};
 ghost use Rattle.wire.specs.Numbers.{put};
 ghost use Rattle.wire.specs.Layouts as Layout;
 ghost use Rattle.directory.specs.Lookup.{find, find_in};
@@ -12,20 +13,17 @@ ghost use Rattle.vhead.specs.Steps as Steps;
 use super::field::Numbers;
 use super::format::{HEAD_TAG, MOST_FIELDS, MOST_HEAD_INTERLACE};
 use answer::Refusal;
-use answer::refusals::{RECORD, SMALL, TOO_LONG, TYPE};
-use directory::Opened;
+use answer::refusals::Rule;
 use directory::format::MOST_BYTES;
-use records::Packed;
 use records::scalar::width;
 use storage::element;
-use storage::element::Located;
 use vset::column::lay_column;
 use vset::format::VERSION;
 use vset::tail;
 use vset::tail::{Ending, Tail};
 
 // The numbers of a head, where its lists of types, sizes, offsets, orders and names stand in the record, and the fields after them.
-#[derive(Clone, Copy)]
+#[derive(Clone, Copy, PartialEq, Eq)]
 pub struct Head {
     pub interlace: usize,
     pub records: usize,
@@ -40,7 +38,7 @@ pub struct Head {
 }
 
 // The numbers that a head starts with.
-#[derive(Clone, Copy)]
+#[derive(Clone, Copy, PartialEq, Eq)]
 pub struct Start {
     pub interlace: u16,
     pub records: u32,
@@ -48,7 +46,7 @@ pub struct Start {
 }
 
 // A field: its numbers, and where its name stands in the record and how long it is.
-#[derive(Clone, Copy)]
+#[derive(Clone, Copy, PartialEq, Eq)]
 pub struct NamedField {
     pub numbers: Numbers,
     pub name: usize,
@@ -56,19 +54,16 @@ pub struct NamedField {
 }
 
 // A head, where its record starts in the image, and how many bytes that has.
-#[derive(Clone, Copy)]
-pub enum Answered {
-    Values {
-        start: usize,
-        size: usize,
-        head: Head,
-    },
-    Refused(Refusal),
+#[derive(Clone, Copy, PartialEq, Eq)]
+pub struct Found {
+    pub start: usize,
+    pub size: usize,
+    pub head: Head,
 }
 
 // What was found in the fields judged so far: whether every order is at least 1, every type known, every size and offset right; and the
 // sum of the sizes.
-#[derive(Clone, Copy)]
+#[derive(Clone, Copy, PartialEq, Eq)]
 pub struct Judged {
     pub orders: bool,
     pub types: bool,
@@ -76,24 +71,12 @@ pub struct Judged {
     pub sum: usize,
 }
 
-fn both(a: bool, b: bool) -> bool
-    ensures { result ≡ a && b }
-{
-    if a {
-        return b;
-    }
-    false
-}
-
 // Whether a field whose type has so many bytes has the size of its order and stands after the fields before it.
 fn fits(f: Numbers, width: usize, sum: usize) -> bool
     requires { (f.order < 65536) × (width ≤ 8) }
     ensures { result ≡ (eqb f.size (f.order * width) && eqb f.offset sum) }
 {
-    if f.size != f.order * width {
-        return false;
-    }
-    f.offset == sum
+    f.size == f.order * width && f.offset == sum
 }
 
 // One field more.
@@ -103,27 +86,28 @@ fn judge(so_far: Judged, f: Numbers) -> Judged
 {
     let width = width(f.code);
     Judged {
-        orders: both(so_far.orders, 1 <= f.order),
-        types: both(so_far.types, 1 <= width),
-        sizes: both(so_far.sizes, fits(f, width, so_far.sum)),
+        orders: so_far.orders && 1 <= f.order,
+        types: so_far.types && 1 <= width,
+        sizes: so_far.sizes && fits(f, width, so_far.sum),
         sum: so_far.sum + f.size,
     }
 }
 
-// The number of the rule that fields so judged break, with a record size, 0 where they break none.
-fn verdict(j: Judged, record_size: usize) -> usize
-    ensures { result ≡ Steps.verdict j record_size }
+// The rules of fields so judged, with a record size.
+#[tactic(auto, unfolding(crate::specs::Steps::verdict, answer::specs::Search::must))]
+fn verdict(j: Judged, record_size: usize) -> Result<(), Rule>
+    ensures { fault_of result ≡ Steps.verdict j record_size }
 {
     if !j.orders {
-        return RECORD;
+        return Err(Rule::Record);
     }
     if !j.types {
-        return TYPE;
+        return Err(Rule::Type);
     }
-    if !both(j.sizes, record_size == j.sum) {
-        return RECORD;
+    if !j.sizes || record_size != j.sum {
+        return Err(Rule::Record);
     }
-    0
+    Ok(())
 }
 
 pub fn parse(part: &[u8]) -> Head
@@ -147,7 +131,7 @@ pub fn parse(part: &[u8]) -> Head
 
 // The numbers of the field of an index, in a record with so many fields.
 fn field_at(part: &[u8], fields: usize, i: usize) -> Numbers
-    requires { (fields ≡ (Heads.head_in part.now).fields) × (i < fields + 65536) }
+    requires { (fields ≡ (Heads.head_in part.now).fields) × (fields < 65536) × (i < 65536) }
     ensures { (result ≡ Heads.field_at part.now (Heads.head_in part.now) i) × Steps.Narrow result }
 {
     let at = 10 + 2 * i;
@@ -160,10 +144,17 @@ fn field_at(part: &[u8], fields: usize, i: usize) -> Numbers
     }
 }
 
-// The number of the rule that the fields of a record break, 0 where they break none.
-fn fields_fault(part: &[u8], fields: usize, record_size: usize) -> usize
-    requires { (fields ≡ (Heads.head_in part.now).fields) × (fields ≤ Limits.most_fields) }
-    ensures { result ≡ Heads.fields_fault record_size (Heads.fields_of part.now (Heads.head_in part.now)) }
+// The rules of so many fields, of which a closure gives each by its index.
+fn check_fields<F: Fn(usize) -> Numbers>(
+    field: F,
+    count: usize,
+    record_size: usize,
+) -> Result<(), Rule>
+    ghost at: { ℕ → Numbers }
+    requires called { (i : _) → i < count → F.pre field i }
+    requires gives { (i : _) (f : _) → i < count → F.post field i f → (f ≡ at i) × Steps.Narrow f }
+    requires few { count ≤ Limits.most_fields }
+    ensures { fault_of result ≡ Heads.fields_fault record_size (Heads.fields_from at count 0) }
 {
     let mut so_far = Judged {
         orders: true,
@@ -171,32 +162,35 @@ fn fields_fault(part: &[u8], fields: usize, record_size: usize) -> usize
         sizes: true,
         sum: 0,
     };
-    let mut i = 0;
-    while i < fields {
-        so_far = judge(so_far, field_at(part, fields, i));
-        i += 1;
+    for i in 0..count {
+        so_far = judge(so_far, field(i));
     }
     verdict(so_far, record_size)
 }
 
-// The number of the rule that a head's bytes break, 0 where they break none.
-pub fn fault(part: &[u8]) -> usize
-    ensures { result ≡ Heads.head_fault part.now }
+// The rules of a head's bytes.
+#[tactic(auto, using(crate::proofs::Heads::head_ends), unfolding(crate::specs::Heads::head_fault, answer::specs::Search::must))]
+pub fn check(part: &[u8]) -> Result<(), Rule>
+    ensures { fault_of result ≡ Heads.head_fault part.now }
 {
     let head = parse(part);
     if part.len() < head.tail.end {
-        return RECORD;
+        return Err(Rule::Record);
     }
     if head.tail.version != VERSION {
-        return RECORD;
+        return Err(Rule::Record);
     }
     if MOST_HEAD_INTERLACE < head.interlace {
-        return RECORD;
+        return Err(Rule::Record);
     }
     if MOST_FIELDS < head.fields {
-        return RECORD;
+        return Err(Rule::Record);
     }
-    fields_fault(part, head.fields, head.record_size)
+    check_fields(
+        |i| field_at(part, head.fields, i),
+        head.fields,
+        head.record_size,
+    )
 }
 
 // Puts type, size, offset and order of each field into the front of a list.
@@ -204,15 +198,13 @@ fn put_fields(part: &[u8], fields: usize, list: &mut [u16])
     requires { (fields ≡ (Heads.head_in part.now).fields) × (fields ≤ Limits.most_fields) × (4 * fields ≤ length list.old) }
     ensures { list.new ≡ sets list.old 0 (Heads.head_fields part.now) }
 {
-    let mut i = 0;
-    while i < fields {
+    for i in 0..fields {
         let f = field_at(part, fields, i);
         let row = 4 * i;
         list[row] = f.code as u16;
         list[row + 1] = f.size as u16;
         list[row + 2] = f.offset as u16;
         list[row + 3] = f.order as u16;
-        i += 1;
     }
 }
 
@@ -223,14 +215,11 @@ fn put_names(part: &[u8], start: usize, fields: usize, list: &mut [u32])
     ensures { list.new ≡ sets list.old 0 (Heads.head_names start part.now) }
 {
     let mut at = 10 + 8 * fields;
-    let mut i = 0;
-    while i < fields {
+    for i in 0..fields {
         let length = wire::read16(part, at);
-        let row = 2 * i;
-        list[row] = (start + (at + 2)) as u32;
-        list[row + 1] = length as u32;
+        list[2 * i] = (start + (at + 2)) as u32;
+        list[2 * i + 1] = length as u32;
         at += 2 + length;
-        i += 1;
     }
 }
 
@@ -255,56 +244,38 @@ pub fn field(part: &[u8], i: u16) -> NamedField
 }
 
 // Finds the head of a reference, where there is room for so many fields, in a chain of so many blocks.
-pub fn find_in(image: &[u8], blocks: usize, reference: u16, room: usize) -> Answered
+pub fn find_in(image: &[u8], blocks: usize, reference: u16, room: usize) -> Result<Found, Refusal>
     ensures answer { let s = image.now in
         Heads.head_numbers result ≡ Heads.unless_long 12 s (Heads.head_at s (find_in s blocks Limits.head_tag reference) room) }
     ensures held { let s = image.now in Steps.Held s (find_in s blocks Limits.head_tag reference) room result }
 {
     if MOST_BYTES < image.len() {
-        return Answered::Refused(Refusal {
-            number: TOO_LONG,
-            place: 0,
-        });
+        return Err(Rule::TooLong.at(0));
     }
-    let located = element::locate(image, blocks, HEAD_TAG, reference);
-    let Located::Plain {
-        slot,
-        offset,
-        length,
-    } = located
-    else {
-        return Answered::Refused(element::refusal_of(located));
-    };
-    let part = wire::part(image, offset, length);
-    let number = fault(part);
-    if number != 0 {
-        return Answered::Refused(Refusal {
-            number,
-            place: slot,
-        });
+    let found = element::locate(image, blocks, HEAD_TAG, reference)?;
+    let part = wire::part(image, found.offset, found.length);
+    if let Err(rule) = check(part) {
+        return Err(rule.at(found.slot));
     }
     let head = parse(part);
     if room < head.fields {
-        return Answered::Refused(Refusal {
-            number: SMALL,
-            place: 0,
-        });
+        return Err(Rule::Small.at(0));
     }
-    Answered::Values {
-        start: offset,
+    Ok(Found {
+        start: found.offset,
         size: part.len(),
         head,
-    }
+    })
 }
 
 // The same in an image that is opened first.
-pub fn find(image: &[u8], reference: u16, room: usize) -> Answered
+pub fn find(image: &[u8], reference: u16, room: usize) -> Result<Found, Refusal>
     ensures answer { Heads.head_numbers result ≡ Heads.head_within image.now reference room }
     ensures held { let s = image.now in Steps.Held s (find s Limits.head_tag reference) room result }
 {
     let opened = directory::open(image);
-    let Opened::Accepted(counts) = opened else {
-        return Answered::Refused(directory::refusal_of(opened));
+    let Ok(counts) = opened else {
+        return Err(opened.unwrap_err());
     };
     find_in(image, counts.blocks, reference, room)
 }
@@ -317,7 +288,7 @@ pub fn read_in(
     reference: u16,
     fields: &mut [u16],
     names: &mut [u32],
-) -> Answered
+) -> Result<Found, Refusal>
     ensures answer { let s = image.now in let found = find_in s blocks Limits.head_tag reference in
         let room = min (length fields.old / 4) (length names.old / 2) in
         Heads.ReadsHead (Heads.unless_long 12 s (Heads.head_at s found room)) s found
@@ -325,19 +296,21 @@ pub fn read_in(
     ensures held { let s = image.now in Steps.Held s (find_in s blocks Limits.head_tag reference)
         (min (length fields.old / 4) (length names.old / 2)) result }
 {
-    let room = wire::least(fields.len() / 4, names.len() / 2);
-    let found = find_in(image, blocks, reference, room);
-    let Answered::Values { start, size, head } = found else {
-        return found;
-    };
-    let part = wire::part(image, start, size);
-    put_fields(part, head.fields, fields);
-    put_names(part, start, head.fields, names);
-    found
+    let room = (fields.len() / 4).min(names.len() / 2);
+    let found = find_in(image, blocks, reference, room)?;
+    let part = wire::part(image, found.start, found.size);
+    put_fields(part, found.head.fields, fields);
+    put_names(part, found.start, found.head.fields, names);
+    Ok(found)
 }
 
 // The same in an image that is opened first.
-pub fn read(image: &[u8], reference: u16, fields: &mut [u16], names: &mut [u32]) -> Answered
+pub fn read(
+    image: &[u8],
+    reference: u16,
+    fields: &mut [u16],
+    names: &mut [u32],
+) -> Result<Found, Refusal>
     ensures answer { let s = image.now in
         Heads.ReadsHead (Heads.head_of s reference (length fields.old) (length names.old)) s (find s Limits.head_tag reference)
         fields.old fields.new names.old names.new (Heads.head_numbers result) }
@@ -345,8 +318,8 @@ pub fn read(image: &[u8], reference: u16, fields: &mut [u16], names: &mut [u32])
         (min (length fields.old / 4) (length names.old / 2)) result }
 {
     let opened = directory::open(image);
-    let Opened::Accepted(counts) = opened else {
-        return Answered::Refused(directory::refusal_of(opened));
+    let Ok(counts) = opened else {
+        return Err(opened.unwrap_err());
     };
     read_in(image, counts.blocks, reference, fields, names)
 }
@@ -365,40 +338,16 @@ fn row_at(rows: &[u16], i: usize) -> Numbers
     }
 }
 
-// The number of the rule that the fields of rows break, 0 where they break none.
-fn rows_fault(rows: &[u16], count: usize, record_size: usize) -> usize
-    requires { (length rows.now ≡ 4 * count) × (count ≤ Limits.most_fields) }
-    ensures { result ≡ Heads.fields_fault record_size (Heads.fields_in rows.now count) }
-{
-    let mut so_far = Judged {
-        orders: true,
-        types: true,
-        sizes: true,
-        sum: 0,
-    };
-    let mut i = 0;
-    while i < count {
-        so_far = judge(so_far, row_at(rows, i));
-        i += 1;
-    }
-    verdict(so_far, record_size)
-}
-
 fn total(lengths: &[u16]) -> usize
     requires { length lengths.now ≤ Limits.most_fields }
-    ensures { (result ≡ Heads.total lengths.now) × (result < 16777216) }
+    ensures { result ≡ sum lengths.now }
 {
-    let mut sum = 0;
-    let mut i = 0;
-    while i < lengths.len() {
-        sum += lengths[i] as usize;
-        i += 1;
-    }
-    sum
+    lengths.iter().map(|&n| n as usize).sum()
 }
 
-// The number of the rule that the parts of a head to be packed break, 0 where they break none.
-fn pack_fault(
+// The rules of the parts of a head to be packed.
+#[tactic(auto, unfolding(crate::specs::Heads::head_pack_fault, answer::specs::Search::must))]
+fn check_pack(
     b: Start,
     rows: &[u16],
     lengths: &[u16],
@@ -406,43 +355,39 @@ fn pack_fault(
     name: usize,
     class: usize,
     version: usize,
-) -> usize
-    ensures { result ≡ Heads.head_pack_fault b rows.now lengths.now names name class version }
+) -> Result<(), Rule>
+    ensures fault { fault_of result ≡ Heads.head_pack_fault b rows.now lengths.now names name class version }
+    ensures packable { OnOk result (Steps.Packable lengths.now names name class) }
 {
     if MOST_FIELDS < lengths.len() {
-        return RECORD;
+        return Err(Rule::Record);
     }
     if rows.len() != 4 * lengths.len() {
-        return RECORD;
+        return Err(Rule::Record);
     }
     if names != total(lengths) {
-        return RECORD;
+        return Err(Rule::Record);
     }
     if MOST_HEAD_INTERLACE < b.interlace as usize {
-        return RECORD;
+        return Err(Rule::Record);
     }
-    let number = tail::pack_fault(name, class, version);
-    if number != 0 {
-        return number;
-    }
-    rows_fault(rows, lengths.len(), b.record_size as usize)
+    tail::check_pack(name, class, version)?;
+    check_fields(|i| row_at(rows, i), lengths.len(), b.record_size as usize)
 }
 
 // Lays the names, which stand one after the other, each with its length before it, from a place of a buffer on.
 fn lay_names(out: &mut [u8], at: usize, lengths: &[u16], names: &[u8])
-    requires { (length names.now ≡ Heads.total lengths.now)
+    requires { (length names.now ≡ sum lengths.now)
         × (at + 2 * length lengths.now + length names.now ≤ length out.old) }
     ensures { out.new ≡ put out.old at (Steps.names_bytes lengths.now names.now) }
 {
     let mut from = 0;
-    let mut i = 0;
-    while i < lengths.len() {
-        let n = lengths[i] as usize;
+    for (i, &n) in lengths.iter().enumerate() {
+        let n = n as usize;
         let to = at + 2 * i + from;
         wire::write16(out, to, n);
         wire::write_bytes(out, to + 2, wire::part(names, from, n));
         from += n;
-        i += 1;
     }
 }
 
@@ -478,13 +423,13 @@ pub fn pack(
     class: &[u8],
     x: Ending,
     out: &mut [u8],
-) -> Packed
+) -> Result<usize, Refusal>
     ensures { let rows = rows.entry.now in let lengths = lengths.entry.now in let all = names.now in
         let name = name.entry.now in let class = class.entry.now in
         Packs (Heads.head_pack_fault b rows lengths (length all) (length name) (length class) x.version)
         (Heads.head_bytes b rows lengths all name class x) out.old out.new (packed_numbers result) }
 {
-    let number = pack_fault(
+    check_pack(
         b,
         rows,
         lengths,
@@ -492,21 +437,15 @@ pub fn pack(
         name.len(),
         class.len(),
         x.version as usize,
-    );
-    if number != 0 {
-        return Packed::Refused(Refusal { number, place: 0 });
-    }
+    )?;
     let count = lengths.len();
     let length = 22 + 10 * count + names.len() + name.len() + class.len();
     if out.len() < length {
-        return Packed::Refused(Refusal {
-            number: SMALL,
-            place: 0,
-        });
+        return Err(Rule::Small.at(0));
     }
     lay_start(out, b, count);
     lay_columns(out, rows, count as u16);
     lay_names(out, 10 + 8 * count, lengths, names);
     tail::lay(out, 10 + 10 * count + names.len(), name, class, x);
-    Packed::Bytes(length)
+    Ok(length)
 }

@@ -1,15 +1,14 @@
 -- Laws of rows and columns: a column of rows, rows of columns, and the loops that lay a column or put rows into a list. Assumes nothing.
 use Prim.Native.Nat.{ℕ, zero, suc, ◌+◌, ◌*◌, ◌-◌, ◌<◌, ◌≤◌}
-use native.Mathlib.Nat.{add-zero, mul-zero, mul-suc, mul-le-mul}
+use native.Mathlib.Nat.{add-zero, mul-zero, mul-suc, sub-zero}
 use native.Mathlib.Omega.{arith}
 use native.Mathlib.Numerals.{add-one, add-two, add-three}
 use mathlib.Core.Path.{◌≡◌, refl, sym, ap, ◌∙◌}
 use mathlib.Core.List.{List, [], ◌∷◌, ◌++◌}
-use lib.ListN.{length, get_or, take, drop, set, length-set}
-use lib.Seq.{sets, take_at, drop_at, get_or-drop}
+use lib.ListN.{length, get_or, take, drop, set}
+use lib.Seq.{sets, length-sets, take_at, drop_at, get_or-drop}
 use Rattle.wire.specs.Numbers.{bytes, put}
-use Rattle.wire.specs.declared.ByteOrder.TheVariants.{BigEndian}
-use Rattle.wire.proofs.Numbers.{length_bytes, length_put, put_put}
+use Rattle.wire.proofs.Numbers.{length_bytes, put_put}
 use Rattle.wire.specs.Layouts.{bytes_each}
 use Rattle.vset.specs.Columns.{rows2, rows4, every}
 
@@ -70,52 +69,26 @@ every_small first step (suc count) xs bound p h (suc i) = every_small (first + s
 
 -- ---- A column laid, number by number
 
--- numbers of 16 bits multiply to 32
-pub product_low : (a b : ℕ) → a < 65536 → b < 65536 → a * b ≤ 4294967296
-product_low a b h k =
-    let x : a ≤ 65536 = omega arith in
-    let y : b ≤ 65536 = omega arith in
-    mul-le-mul x y
+module _ (at : ℕ) (table : List ℕ) (first step count : ℕ) where
+  -- what the buffer comes to, once the numbers from the i-th on are laid too
+  abbrev pub laying : List ℕ → ℕ → List ℕ
+  laying out i = put out (at + 2 * i) (bytes_each 2 (every (first + step * i) step (count - i) table))
 
--- so many numbers are laid: those that are left, laid on what is there, give the whole
-pub record Laying (out₀ : List ℕ) (at : ℕ) (table : List ℕ) (first step count : ℕ) (out : List ℕ) (i : ℕ) : Type 0 where
-  pub upto : i ≤ count
-  pub long : length out ≡ length out₀
-  pub left : put out (at + 2 * i) (bytes_each 2 (every (first + step * i) step (count - i) table)) ≡ put out₀ at (bytes_each 2 (every first step count table))
+  pub lays : (out : List ℕ) (i : ℕ) → i < count → laying (put out (at + 2 * i) (bytes 2 (get_or table (first + step * i) 0))) (i + 1) ≡ laying out i
+  unfolding bytes_each
+  lays out i h =
+      let own = bytes 2 (get_or table (first + step * i) 0) in
+      let a : at + 2 * (i + 1) ≡ at + 2 * i + length own = rw length_bytes (omega arith) in
+      rw (a, put_put out (at + 2 * i) own _, every_next first step count table i h)
 
-module _ (out₀ : List ℕ) (at : ℕ) (table : List ℕ) (first step count : ℕ) where
-  pub laying_start : Laying out₀ at table first step count out₀ 0
-  laying_start =
-      let z : count - 0 ≡ count = omega arith in
-      record { upto = omega arith; long = refl; left = rw (mul-zero step, add-zero first, z, add-zero at) }
+  pub laid : (out : List ℕ) (i : ℕ) → count ≤ i → laying out i ≡ out
+  unfolding every bytes_each put
+  laid out i h = let z : count - i ≡ 0 = omega arith in rw z
 
-  module _ (out : List ℕ) (i : ℕ) (w : Laying out₀ at table first step count out i) where
-    pub laying_next : i < count → Laying out₀ at table first step count (put out (at + 2 * i) (bytes 2 (get_or table (first + step * i) 0))) (i + 1)
-    unfolding bytes_each
-    laying_next h =
-        let own = bytes 2 (get_or table (first + step * i) 0) in
-        let rest = every (first + step * (i + 1)) step (count - (i + 1)) table in
-        let n : length own ≡ 2 = length_bytes BigEndian 2 (get_or table (first + step * i) 0) in
-        let a : at + 2 * (i + 1) ≡ at + 2 * i + length own = omega arith in
-        record {
-          upto = omega arith;
-          long = length_put out (at + 2 * i) own ∙ w.long;
-          left =
-              ap (λ k. put (put out (at + 2 * i) own) k (bytes_each 2 rest)) a
-              ∙ put_put out (at + 2 * i) own (bytes_each 2 rest)
-              ∙ ap (λ l. put out (at + 2 * i) (bytes_each 2 l)) (sym (every_next first step count table i h))
-              ∙ w.left;
-        }
-
-    pub laying_done : count ≤ i → out ≡ put out₀ at (bytes_each 2 (every first step count table))
-    unfolding every bytes_each put
-    laying_done h = let z : count - i ≡ 0 = omega arith in rw z at w.left
+  pub laying_all : (out : List ℕ) → laying out 0 ≡ put out at (bytes_each 2 (every first step count table))
+  laying_all out = simp (mul-zero, add-zero, sub-zero)
 
 -- ---- Rows put into a list, one by one
-
-length_sets : (l : List ℕ) (i : ℕ) (xs : List ℕ) → length (sets l i xs) ≡ length l
-length_sets l i [] = refl
-length_sets l i (x ∷ xs) = length_sets (set l i x) (suc i) xs ∙ length-set l i x
 
 sets_append : (l : List ℕ) (i : ℕ) (xs ys : List ℕ) → sets l i (xs ++ ys) ≡ sets (sets l i xs) (i + length xs) ys
 sets_append l i [] ys = rw add-zero
@@ -142,7 +115,7 @@ module _ {n : ℕ} {whole list₀ rest list : List ℕ} {i : ℕ} (h : i < n) wh
       let a : width * (i + 1) ≡ width * i + length row = omega (arith, mul-suc width i, add-one i) in
       record {
         upto = omega arith;
-        long = length_sets list (width * i) row ∙ w.long;
+        long = length-sets list (width * i) row ∙ w.long;
         left = rw a (sym (sets_append list (width * i) row more) ∙ ap (sets list (width * i)) (sym is) ∙ w.left);
       }
 

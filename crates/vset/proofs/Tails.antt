@@ -37,10 +37,13 @@ unfolding names_end
 names_low zero e at = omega arith
 names_low (suc n) e at = omega (arith, names_low n e (at + 2 + be 2 e at))
 
--- a name more
-pub names_next : (e : List ℕ) (n i end : ℕ) → i < n → names_end e (n - i) end ≡ names_end e (n - (i + 1)) (end + 2 + be 2 e end)
+-- a name more, of k bytes
+pub names_next : (e : List ℕ) (n i end k : ℕ) → k ≡ be 2 e end → i < n → names_end e (n - (i + 1)) (end + (2 + k)) ≡ names_end e (n - i) end
 unfolding names_end
-names_next e n i end h = let m : n - i ≡ suc (n - (i + 1)) = omega arith in rw m
+names_next e n i end k is h =
+    let m : n - i ≡ suc (n - (i + 1)) = omega arith in
+    let a : end + (2 + k) ≡ end + 2 + be 2 e end = omega arith in
+    rw (m, a)
 
 pub names_done : (e : List ℕ) (n i end : ℕ) → n ≤ i → end ≡ names_end e (n - i) end
 unfolding names_end

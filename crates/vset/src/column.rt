@@ -8,10 +8,7 @@ ghost use Rattle.vset.specs.Columns.{every};
 fn entry(table: &[u16], i: usize) -> usize
     ensures { result ≡ get_or table.now i 0 }
 {
-    if table.len() <= i {
-        return 0;
-    }
-    table[i] as usize
+    table.get(i).map_or(0, |&x| x as usize)
 }
 
 // Lays a column of a table, so many numbers of 16 bits from an entry on and so many entries apart, from a place of a buffer on. What
@@ -19,10 +16,8 @@ fn entry(table: &[u16], i: usize) -> usize
 pub fn lay_column(out: &mut [u8], at: u32, table: &[u16], first: u16, step: u16, count: u16)
     ensures { out.new ≡ put out.old at (bytes_each 2 (every first step count table.now)) }
 {
-    let mut i = 0;
-    while i < count as usize {
+    for i in 0..count as usize {
         let number = entry(table, first as usize + step as usize * i);
         wire::write16(out, at as usize + 2 * i, number);
-        i += 1;
     }
 }

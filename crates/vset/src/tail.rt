@@ -1,16 +1,19 @@
 // The fields that a Vgroup and a Vdata head end in.
+#![tactic(auto, unfolding(crate::specs::Tails::tail_pack_fault, answer::specs::Search::must))]
+
 ghost use Rattle.std.specs.Prelude.{◌≡◌, ◌≤◌, ◌<◌, length};
+ghost use Rattle.answer.specs.Refusals.{fault_of};
 ghost use Rattle.wire.specs.Numbers.{put};
 ghost use Rattle.wire.specs.Layouts as Layout;
 ghost use Rattle.vset.specs.Tails as Tails;
 ghost use Rattle.vset.specs.Steps as Steps;
 
 use super::format::VERSION;
-use answer::refusals::RECORD;
+use answer::refusals::Rule;
 use records::format::MOST_COUNT;
 
 // Where name and class stand in the record and how long they are, the last numbers, and where the record ends.
-#[derive(Clone, Copy)]
+#[derive(Clone, Copy, PartialEq, Eq)]
 pub struct Tail {
     pub name: usize,
     pub name_length: usize,
@@ -24,7 +27,7 @@ pub struct Tail {
 }
 
 // The numbers after name and class.
-#[derive(Clone, Copy)]
+#[derive(Clone, Copy, PartialEq, Eq)]
 pub struct Ending {
     pub extension_tag: u16,
     pub extension_ref: u16,
@@ -37,10 +40,8 @@ pub fn skip_names(part: &[u8], at: u32, count: u16) -> usize
     ensures { (result ≡ Tails.names_end part.now count at) × (result ≤ 8589934592) }
 {
     let mut end = at as usize;
-    let mut i = 0;
-    while i < count as usize {
+    for _ in 0..count {
         end += 2 + wire::read16(part, end);
-        i += 1;
     }
     end
 }
@@ -68,20 +69,20 @@ pub fn parse(part: &[u8], names: u32, count: u16) -> Tail
     }
 }
 
-// The number of the rule that a name and a class of so many bytes and a version break, 0 where they break none.
-pub fn pack_fault(name: usize, class: usize, version: usize) -> usize
-    ensures { result ≡ Tails.tail_pack_fault name class version 0 }
+// The rules of a name and a class of so many bytes and a version.
+pub fn check_pack(name: usize, class: usize, version: usize) -> Result<(), Rule>
+    ensures { fault_of result ≡ Tails.tail_pack_fault name class version 0 }
 {
     if MOST_COUNT < name {
-        return RECORD;
+        return Err(Rule::Record);
     }
     if MOST_COUNT < class {
-        return RECORD;
+        return Err(Rule::Record);
     }
     if version != VERSION {
-        return RECORD;
+        return Err(Rule::Record);
     }
-    0
+    Ok(())
 }
 
 // Lays a text with its length before it, from a place of a buffer on.

@@ -9,9 +9,10 @@ use mathlib.Core.List.{List, [], ◌∷◌, ◌++◌, append_assoc, append-nil, 
 use mathlib.Core.Logic.{◌⊎◌, inl, inr}
 use mathlib.Core.Bool.{Bool, true, false}
 use lib.Dec.{ltb}
+use lib.Pow.{pow-add}
 use borrow.Author.Tests.{ltb-true, ltb-false}
 use lib.ListN.{length, get_or, take, drop, set, take-append-drop, length-append, length-set, length-drop, length-reverse, drop_of_length-le, get_or-eq_default, get_or-append}
-use lib.Seq.{sets, length-sets, sets-eq, set_out, set-append_left, get_or-append-add, get_or-append_seam, get_or-set_same, get_or-set_other, get_or-drop, take-suc, take-append-le, drop-append-le, drop-append-add, take_all, take-nil, take-length, length-take-le, take-add, drop-drop, drop-cons}
+use lib.Seq.{sets, length-sets, sets-eq, set_out, set-append_left, get_or-append-add, get_or-append_seam, get_or-set_same, get_or-set_other, get_or-drop, take-suc, take-append-le, drop-append-le, drop-append-add, take_all, take-nil, length-take-le, take-add, drop-drop, drop-cons}
 use Rattle.wire.specs.Numbers.{high_at, low_at, number_in, beside, bytes_in, be, le, bytes, put, part, Bytes, ReadsIn, Reads}
 use Rattle.wire.specs.declared.ByteOrder.{ByteOrder}
 use Rattle.wire.specs.declared.ByteOrder.TheVariants.{BigEndian, LittleEndian}
@@ -392,15 +393,8 @@ le_four s at =
     omega (arith, le_two s at)
 
 -- a byte is its number in either order
-pub reads_one : (order : ByteOrder) (s : List ℕ) (at n : ℕ) → Reads 1 s at n → ReadsIn order 1 s at n
-reads_one order s at n r = record { is = r.is ∙ number_one BigEndian s at ∙ sym (number_one order s at); small = r.small }
-
--- what was read in an order and a width that are those asked for
-pub reads_asked : (order own : ByteOrder) → order ≡ own → (width k : ℕ) → width ≡ k → k ≤ 8 → (s : List ℕ) (at n : ℕ) → ReadsIn own k s at n
-    → ReadsIn order (min width 8) s at n
-reads_asked order own o width k w l s at n r =
-    let m : min width 8 ≡ k = omega arith in
-    rw (o, m) r
+pub reads_byte : (order : ByteOrder) (s : List ℕ) (at b : ℕ) → b ≡ get_or s at 0 → Bytes s → ReadsIn order 1 s at b
+reads_byte order s at b e h = record { is = e ∙ sym (number_one order s at); small = omega (arith, h at) }
 
 -- one byte more, below those that were read
 pub reads_more : (order : ByteOrder) (k : ℕ) (s : List ℕ) (at n b : ℕ) → ReadsIn order k s (high_at order 1 at) n → Reads 1 s (low_at order k at) b
@@ -424,40 +418,48 @@ byte_room k n b h m l =
     let q : 256 ^ k * 256 ≤ 2 ^ 64 = rw pow-suc at p in
     omega arith
 
--- a number put as two halves
-pub put_halves : (k : ℕ) (s : List ℕ) (at x : ℕ) → put (put s at (bytes k (x / 256 ^ k))) (at + k) (bytes k x) ≡ put s at (bytes (k + k) x)
-put_halves k s at x =
-    let n : length (bytes k (x / 256 ^ k)) ≡ k = length_bytes BigEndian k (x / 256 ^ k) in
-    ap (λ m. put (put s at (bytes k (x / 256 ^ k))) (at + m) (bytes k x)) (sym n)
-    ∙ put_put s at (bytes k (x / 256 ^ k)) (bytes k x)
-    ∙ ap (put s at) (sym (bytes_split BigEndian k k x))
+-- ---- Putting bytes, one by one
 
--- ---- Copying bytes, one by one
+-- the byte of a number that stands above so many others
+byte_above : (k low x : ℕ) → get_or (bytes (k + 1 + low) x) k 0 ≡ x / 256 ^ low % 256
+unfolding bytes_in
+byte_above k low x =
+    let high = bytes k (x / 256 ^ low / 256) in
+    let n : k ≡ length high = sym (length_bytes BigEndian k (x / 256 ^ low / 256)) in
+    rw (bytes_split BigEndian (k + 1) low x, add-one, append_assoc) (ap (λ j. get_or (high ++ (x / 256 ^ low % 256 ∷ bytes low x)) j 0) n ∙ get_or-append_seam high (x / 256 ^ low % 256) (bytes low x) 0)
 
--- one byte more
-pub put_more : (s : List ℕ) (at : ℕ) (vs : List ℕ) (i : ℕ) → i < length vs → set (put s at (take i vs)) (at + i) (get_or vs i 0) ≡ put s at (take (i + 1) vs)
-unfolding put
-put_more s at vs i h =
-    let n : length (take i vs) ≡ i = length-take-le i vs (omega arith) in
-    let e : take (i + 1) vs ≡ take i vs ++ (get_or vs i 0 ∷ []) = rw (add-one, take-suc vs i 0 h) in
-    ap (λ k. set (sets s at (take i vs)) (at + k) (get_or vs i 0)) (sym n) ∙ put_put s at (take i vs) (get_or vs i 0 ∷ []) ∙ ap (put s at) (sym e)
+power_of_bytes : (k : ℕ) → 2 ^ (8 * k) ≡ 256 ^ k
+power_of_bytes zero = refl
+power_of_bytes (suc k) =
+    let e : 8 * suc k ≡ 8 + 8 * k = omega arith in
+    rw (e, pow-add 2 8 (8 * k), power_of_bytes k) (sym (pow-succ' 256 k))
 
--- as many bytes as there is room for
-pub put_clipped : (s : List ℕ) (at : ℕ) (vs : List ℕ) → at ≤ length s → put s at (take (min (length s - at) (length vs)) vs) ≡ put s at vs
-put_clipped s at vs h = go (ltb (length s - at) (length vs)) refl
-  where
-    go : (b : Bool) → ltb (length s - at) (length vs) ≡ b → put s at (take (min (length s - at) (length vs)) vs) ≡ put s at vs
-    go true e =
-        let l : length s - at < length vs = ltb-true _ _ e in
-        let m : min (length s - at) (length vs) ≡ length s - at = omega arith in
-        let n : length (take (length s - at) vs) ≡ length s - at = length-take-le (length s - at) vs (omega arith) in
-        let p : put (put s at (take (length s - at) vs)) (at + length (take (length s - at) vs)) (drop (length s - at) vs) ≡ put s at (take (length s - at) vs) =
-        put_past (put s at (take (length s - at) vs)) _ _ (rw length_put (omega arith)) in
-        rw m (sym p ∙ put_put s at (take (length s - at) vs) (drop (length s - at) vs) ∙ ap (put s at) (take-append-drop (length s - at) vs))
-    go false e =
-        let l : length vs ≤ length s - at = ltb-false _ _ e in
-        let m : min (length s - at) (length vs) ≡ length vs = omega arith in
-        rw m (ap (put s at) (take-length vs))
+pub byte_of : (k x i : ℕ) → i < k → get_or (bytes k x) i 0 ≡ x / 2 ^ (8 * (k - 1 - i)) % 256
+byte_of k x i h =
+    let low = k - 1 - i in
+    let n : i + 1 + low ≡ k = omega arith in
+    rw (power_of_bytes low) (ap (λ m. get_or (bytes m x) i 0) (sym n) ∙ byte_above i low x)
+
+module _ (s : List ℕ) (at : ℕ) (vs t : List ℕ) where
+  -- one byte more
+  pub put_more : (i v : ℕ) → t ≡ put s at (take i vs) → i < length vs → v ≡ get_or vs i 0 → set t (at + i) v ≡ put s at (take (i + 1) vs)
+  unfolding put
+  put_more i v o h w =
+      let n : length (take i vs) ≡ i = length-take-le i vs (omega arith) in
+      let e : take (i + 1) vs ≡ take i vs ++ (v ∷ []) = rw (w, add-one, take-suc vs i 0 h) in
+      ap (λ l. set l (at + i) v) o ∙ ap (λ k. set (sets s at (take i vs)) (at + k) v) (sym n) ∙ put_put s at (take i vs) (v ∷ []) ∙ ap (put s at) (sym e)
+
+  -- as many bytes as there is room for
+  pub put_all : (i : ℕ) → t ≡ put s at (take i vs) → i ≡ min (length vs) (length s - at) → t ≡ put s at vs
+  put_all i o r = o ∙ go (ltb i (length vs)) refl
+    where
+      go : (b : Bool) → ltb i (length vs) ≡ b → put s at (take i vs) ≡ put s at vs
+      go true e =
+          let l : i < length vs = ltb-true _ _ e in
+          let n : length (take i vs) ≡ i = length-take-le i vs (omega arith) in
+          let p : put (put s at (take i vs)) (at + length (take i vs)) (drop i vs) ≡ put s at (take i vs) = put_past (put s at (take i vs)) _ _ (rw length_put (omega arith)) in
+          sym p ∙ put_put s at (take i vs) (drop i vs) ∙ ap (put s at) (take-append-drop i vs)
+      go false e = ap (put s at) (take_all i vs (ltb-false _ _ e))
 
 -- bytes put at the front
 pub put_front : (s vs : List ℕ) → length vs ≤ length s → put s 0 vs ≡ vs ++ drop (length vs) s

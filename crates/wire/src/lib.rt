@@ -1,66 +1,20 @@
 // Numbers in bytes: the only way in this library to read or write one. Most significant byte first, but where a byte order is named.
 //
-// Every function answers on all inputs. A byte past the end reads as 0, and what would be written past the end is dropped.
+// Every function answers on all inputs, but those of `inside`. A byte past the end reads as 0, and what would be written past the end is
+// dropped.
 #![tactic(auto)]
 
-ghost use Rattle.std.specs.Prelude.{◌≡◌, ◌+◌, ◌<◌, min, replicate};
+ghost use Rattle.std.specs.Prelude.{◌≡◌, ◌+◌, ◌<◌, ◌≤◌, min, replicate};
 ghost use Rattle.wire.specs.Numbers as Numbers;
 ghost use Rattle.wire.specs.Numbers.{bytes, put, low_at, high_at, ReadsIn, Reads};
-ghost use Rattle.wire.specs.declared.ByteOrder.TheVariants.{LittleEndian};
+
+pub mod inside;
 
 // Which byte of a number stands first: its most significant one, or its least.
 #[derive(Clone, Copy)]
 pub enum ByteOrder {
     BigEndian,
     LittleEndian,
-}
-
-fn wide(x: u8) -> usize
-    ensures { (result ≡ x) × (result < 256) }
-{
-    x as usize
-}
-
-pub fn read8(s: &[u8], at: usize) -> usize
-    ensures { Reads 1 s.now at result }
-{
-    if at < s.len() {
-        return wide(s[at]);
-    }
-    0
-}
-
-pub fn read16(s: &[u8], at: usize) -> usize
-    ensures { Reads 2 s.now at result }
-{
-    if s.len() <= at {
-        return 0;
-    }
-    if s.len() - at < 2 {
-        return read8(s, at) * 256 + read8(s, at + 1);
-    }
-    wide(s[at]) * 256 + wide(s[at + 1])
-}
-
-pub fn read32(s: &[u8], at: usize) -> usize
-    ensures { Reads 4 s.now at result }
-{
-    if s.len() <= at {
-        return 0;
-    }
-    if s.len() - at < 4 {
-        return read16(s, at) * 65536 + read16(s, at + 2);
-    }
-    wide(s[at]) * 16777216 + wide(s[at + 1]) * 65536 + wide(s[at + 2]) * 256 + wide(s[at + 3])
-}
-
-pub fn read64(s: &[u8], at: usize) -> usize
-    ensures { Reads 8 s.now at result }
-{
-    if s.len() <= at {
-        return 0;
-    }
-    read32(s, at) * 4294967296 + read32(s, at + 4)
 }
 
 // Where the byte of a number stands that lies between so many high ones and so many low ones.
@@ -74,158 +28,140 @@ fn next_byte(order: ByteOrder, at: usize, high: usize, low: usize) -> usize
     }
 }
 
+pub fn read8(s: &[u8], at: usize) -> usize
+    ensures { Reads 1 s.now at result }
+{
+    match s.get(at) {
+        Some(&byte) => usize::from(byte),
+        None => 0,
+    }
+}
+
 // The number in so many bytes, at most 8, in a byte order, byte by byte.
+#[cold]
+#[inline(never)]
 fn read_bytes(s: &[u8], at: usize, width: usize, order: ByteOrder) -> usize
     ensures { ReadsIn order (min width 8) s.now at result }
 {
     if s.len() <= at {
         return 0;
     }
-    let count = least(width, 8);
+    let count = width.min(8);
     let mut n = 0;
-    let mut i = 0;
-    while i < count {
+    for i in 0..count {
         n = n * 256 + read8(s, next_byte(order, at, i, count - 1 - i));
-        i += 1;
     }
     n
 }
 
-// The numbers in 2, 4 and 8 bytes, least significant byte first.
-fn low16(s: &[u8], at: usize) -> usize
-    ensures { ReadsIn LittleEndian 2 s.now at result }
+// The number in WIDTH bytes, in a byte order: where all are there, with no test for each.
+fn read<const WIDTH: usize>(s: &[u8], at: usize, order: ByteOrder) -> usize
+    requires { WIDTH ≤ 8 }
+    ensures { ReadsIn order WIDTH s.now at result }
 {
     if s.len() <= at {
         return 0;
     }
-    if s.len() - at < 2 {
-        return read8(s, at + 1) * 256 + read8(s, at);
+    if s.len() - at < WIDTH {
+        return read_bytes(s, at, WIDTH, order);
     }
-    wide(s[at + 1]) * 256 + wide(s[at])
+    inside::read::<WIDTH>(s, at, order)
 }
 
-fn low32(s: &[u8], at: usize) -> usize
-    ensures { ReadsIn LittleEndian 4 s.now at result }
+pub fn read16(s: &[u8], at: usize) -> usize
+    ensures { Reads 2 s.now at result }
 {
-    if s.len() <= at {
-        return 0;
-    }
-    if s.len() - at < 4 {
-        return low16(s, at + 2) * 65536 + low16(s, at);
-    }
-    wide(s[at + 3]) * 16777216 + wide(s[at + 2]) * 65536 + wide(s[at + 1]) * 256 + wide(s[at])
+    read::<2>(s, at, ByteOrder::BigEndian)
 }
 
-fn low64(s: &[u8], at: usize) -> usize
-    ensures { ReadsIn LittleEndian 8 s.now at result }
+pub fn read32(s: &[u8], at: usize) -> usize
+    ensures { Reads 4 s.now at result }
 {
-    if s.len() <= at {
-        return 0;
-    }
-    low32(s, at + 4) * 4294967296 + low32(s, at)
+    read::<4>(s, at, ByteOrder::BigEndian)
 }
 
-// The number in so many bytes, at most 8, in a byte order: of 1, 2, 4 or 8 bytes without a loop.
+pub fn read64(s: &[u8], at: usize) -> usize
+    ensures { Reads 8 s.now at result }
+{
+    read::<8>(s, at, ByteOrder::BigEndian)
+}
+
+// The number in so many bytes, at most 8, in a byte order.
 pub fn read_number(s: &[u8], at: usize, width: usize, order: ByteOrder) -> usize
     ensures { ReadsIn order (min width 8) s.now at result }
 {
-    match order {
-        ByteOrder::BigEndian => match width {
-            1 => read8(s, at),
-            2 => read16(s, at),
-            4 => read32(s, at),
-            8 => read64(s, at),
-            _ => read_bytes(s, at, width, order),
-        },
-        ByteOrder::LittleEndian => match width {
-            1 => read8(s, at),
-            2 => low16(s, at),
-            4 => low32(s, at),
-            8 => low64(s, at),
-            _ => read_bytes(s, at, width, order),
-        },
+    match width {
+        1 => read::<1>(s, at, order),
+        2 => read::<2>(s, at, order),
+        4 => read::<4>(s, at, order),
+        8 => read::<8>(s, at, order),
+        _ => read_bytes(s, at, width, order),
+    }
+}
+
+// Writes a number into WIDTH bytes.
+fn write<const WIDTH: usize>(s: &mut [u8], at: usize, x: usize)
+    requires { WIDTH ≤ 8 }
+    ensures { s.new ≡ put s.old at (bytes WIDTH x) }
+{
+    let room = s.len().saturating_sub(at);
+    for i in 0..WIDTH {
+        if i < room {
+            s[at + i] = ((x >> (8 * (WIDTH - 1 - i))) % 256) as u8;
+        }
     }
 }
 
 pub fn write8(s: &mut [u8], at: usize, x: usize)
     ensures { s.new ≡ put s.old at (bytes 1 x) }
 {
-    if s.len() <= at {
-        return;
-    }
-    s[at] = (x % 256) as u8;
+    write::<1>(s, at, x);
 }
 
 pub fn write16(s: &mut [u8], at: usize, x: usize)
     ensures { s.new ≡ put s.old at (bytes 2 x) }
 {
-    if s.len() <= at {
-        return;
-    }
-    write8(s, at, x / 256);
-    write8(s, at + 1, x);
+    write::<2>(s, at, x);
 }
 
 pub fn write32(s: &mut [u8], at: usize, x: usize)
     ensures { s.new ≡ put s.old at (bytes 4 x) }
 {
-    if s.len() <= at {
-        return;
-    }
-    write16(s, at, x / 65536);
-    write16(s, at + 2, x);
+    write::<4>(s, at, x);
 }
 
 pub fn write64(s: &mut [u8], at: usize, x: usize)
     ensures { s.new ≡ put s.old at (bytes 8 x) }
 {
-    if s.len() <= at {
-        return;
-    }
-    write32(s, at, x / 4294967296);
-    write32(s, at + 4, x);
+    write::<8>(s, at, x);
 }
 
 // The lesser of two numbers.
 pub fn least(a: usize, b: usize) -> usize
     ensures { result ≡ min a b }
 {
-    if a < b {
-        return a;
-    }
-    b
+    a.min(b)
 }
 
-// Copies bytes to a place.
+// Copies bytes to a place, one by one: for `copy_from_slice` the compiler would call C's memmove, and the library needs none.
 pub fn write_bytes(s: &mut [u8], at: usize, vs: &[u8])
     ensures { s.new ≡ put s.old at vs.now }
 {
-    if s.len() <= at {
-        return;
-    }
-    let count = least(s.len() - at, vs.len());
-    let mut i = 0;
-    while i < count {
+    let count = vs.len().min(s.len().saturating_sub(at));
+    for i in 0..count {
         s[at + i] = vs[i];
-        i += 1;
     }
 }
 
-// Writes so many zeros to a place. A byte that is 0 is left alone: without that test the compiler would call C's memset, and the library
-// needs no other one.
+// Writes so many zeros to a place. A byte that is 0 is left alone: without that test the compiler would call C's memset.
 pub fn write_zeros(s: &mut [u8], at: usize, count: usize)
     ensures { s.new ≡ put s.old at (replicate count 0) }
 {
-    if s.len() <= at {
-        return;
-    }
-    let reach = least(s.len() - at, count);
-    let mut i = 0;
-    while i < reach {
+    let reach = count.min(s.len().saturating_sub(at));
+    for i in 0..reach {
         if s[at + i] != 0 {
             s[at + i] = 0;
         }
-        i += 1;
     }
 }
 
@@ -233,7 +169,7 @@ pub fn write_zeros(s: &mut [u8], at: usize, count: usize)
 pub fn part(s: &[u8], at: usize, count: usize) -> &[u8]
     ensures { result.now ≡ Numbers.part s.now at count }
 {
-    let start = least(at, s.len());
-    let end = start + least(count, s.len() - start);
+    let start = at.min(s.len());
+    let end = start + count.min(s.len() - start);
     &s[start..end]
 }

@@ -1,5 +1,5 @@
 -- `directory::check_slots` meets its contract. The invariant: what the slots of the blocks left answer is the answer. Assumes nothing.
-use Prim.Native.Nat.{ℕ, ◌-◌, ◌≤◌, ◌<◌}
+use Prim.Native.Nat.{ℕ, ◌<◌}
 use mathlib.Core.Path.{◌≡◌}
 use mathlib.Core.List.{List}
 use Rattle.directory.specs.Links.{block_after}
@@ -10,7 +10,6 @@ use Rattle.directory.proofs.check_slots.Given as goal
 
 -- so many blocks are passed
 pub record Passing (image : List ℕ) (blocks : ℕ) (checked : Checked) (b before : ℕ) : Type 0 where
-  pub upto : before ≤ blocks
   pub at : block_after image before 4 ≡ b
   pub low : b < 4294967296
   pub reached : Reached image blocks before checked.live
@@ -18,6 +17,3 @@ pub record Passing (image : List ℕ) (blocks : ℕ) (checked : Checked) (b befo
 
 abbrev pub invariant-loop-before : goal.invariant-loop-before
 invariant-loop-before l = Passing l.image l.shape.blocks l.checked l.b l.before
-
-abbrev pub decreases-loop-before : goal.decreases-loop-before
-decreases-loop-before l = l.shape.blocks - l.before

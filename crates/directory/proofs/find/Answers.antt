@@ -7,9 +7,9 @@ use Rattle.directory.proofs.find.Goals as goal
 
 pub returns-in_default : goal.returns-in_default
 unfolding find_of
-returns-in_default c = sym (Opens.refused_is _ _ c.open-opened.ensures 1 _ _ c.in_default.is _ c.refusal_of.ensures)
+returns-in_default c = sym (Opens.refused_is _ _ c.open-opened.ensures 1 _ _ c.unwrap_err.ensures)
 
 pub returns : goal.returns
 returns c =
-    let o = Opens.accepted_with _ _ c.open-opened.ensures _ c.in-Accepted.is in
+    let o = Opens.accepted_with _ _ c.open-opened.ensures _ c.in-Ok.is in
     Named.found_opened _ _ _ _ o _ c.find_slot.ensures

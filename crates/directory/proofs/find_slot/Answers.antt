@@ -1,47 +1,31 @@
--- `directory::find_slot` meets its contract. The invariant: what is still ahead decides. Assumes nothing.
+-- `directory::find_slot` meets its contract. Assumes nothing.
 use native.Mathlib.Omega.{arith}
 use mathlib.Core.Path.{◌≡◌, sym, ap, ◌∙◌}
-use lib.ListN.{length}
+use Rattle.std.specs.Prelude.{Err}
 use Rattle.answer.specs.Search.{first}
-use Rattle.directory.specs.Lookup.{hit_found}
-use Rattle.answer.proofs.Search
-use Rattle.directory.proofs.Cursors
+use Rattle.directory.specs.Links.{slots_after}
+use Rattle.directory.specs.Lookup.{has, hit_found}
+use Rattle.directory.specs.Steps.Cursors.{Stands}
+use Rattle.directory.specs.Steps.Resuming.{since, head_of}
+use Rattle.directory.proofs.Resuming
 use Rattle.directory.proofs.find_slot.Goals as goal
+use Rattle.directory.proofs.find_slot.Goals.{After-find_ahead-at}
 
-pub loop-at-init : goal.loop-at-init
-loop-at-init c =
-    let w = c.start-at.ensures in
-    (Cursors.stands_self _ _ _ w, ap (first _) (sym w.is))
+-- the cursor stands at the first slot that is searched for
+found : (c : After-find_ahead-at) → let a = c.args in Stands a.image.now c.find_ahead-at.result (since (has a.image.now a.tag a.reference) (slots_after a.image.now a.blocks 4))
+found c = rw c.start-first.ensures.is at c.find_ahead-at.ensures
 
-pub matches-requires : goal.matches-requires
-matches-requires c = omega (arith, c.loop-at.invariant.0.bounded.low)
+-- which is what a search of the slots gives
+hit : (c : After-find_ahead-at) → let a = c.args in let f = has a.image.now a.tag a.reference in
+    head_of (since f (slots_after a.image.now a.blocks 4)) ≡ first f (slots_after a.image.now a.blocks 4)
+hit c = Resuming.since_first _ _
 
-pub returns-then-matches : goal.returns-then-matches
-returns-then-matches c =
-    let l = c.loop-at in
-    sym (ap hit_found (l.invariant.1 ∙ ap (first _) (Cursors.ahead_here _ l.at c.loop-at-test.true) ∙ Search.first_here _ _ _ (sym c.matches.ensures ∙ c.if-matches.true)))
-
-pub advanced-at-requires : goal.advanced-at-requires
-advanced-at-requires c = (c.loop-at.invariant.0.bounded, c.loop-at-test.true)
-
-pub loop-at-smaller : goal.loop-at-smaller
-loop-at-smaller c =
-    let l = c.loop-at in
-    let w = c.advanced-at.ensures in
-    let e = Cursors.ahead_here c.args.image.now l.at c.loop-at-test.true in
-    omega (arith, ap length w.is, ap length e)
-
-pub loop-at-preserved : goal.loop-at-preserved
-loop-at-preserved c =
-    let l = c.loop-at in
-    let w = c.advanced-at.ensures in (
-      Cursors.stands_self _ _ _ w,
-      l.invariant.1 ∙ ap (first _) (Cursors.ahead_here _ l.at c.loop-at-test.true)
-          ∙ Search.first_later _ _ _ (sym c.matches.ensures ∙ c.if-matches.false) ∙ ap (first _) (sym w.is),
-    )
+pub returns-then-at-eq0 : goal.returns-then-at-eq0
+returns-then-at-eq0 c =
+    let g = (goal.at.returns-then-at-eq0 c).After-find_ahead-at in
+    ap Err c.at.ensures ∙ ap hit_found (sym (Resuming.stands_miss _ _ _ (found g) c.if-at-eq0.true) ∙ hit g)
 
 pub returns : goal.returns
 returns c =
-    let l = c.loop-at in
-    let z : l.at.left ≡ 0 = omega arith in
-    sym (ap hit_found (l.invariant.1 ∙ ap (first _) (l.invariant.0.settled z) ∙ Search.first_nil _))
+    let g = (goal.at.returns c).After-find_ahead-at in
+    ap hit_found (sym (Resuming.stands_hit _ _ _ (found g) (omega (arith, c.if-at-eq0.false))) ∙ hit g)

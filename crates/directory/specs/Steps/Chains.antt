@@ -1,10 +1,10 @@
 -- What the walk along the chain tells of its blocks, each named by the one before it in the image. Assumes nothing.
-use Rattle.std.specs.Prelude.{ℕ, ◌<◌, ◌≤◌, ◌≡◌, true, List, length}
+use Rattle.std.specs.Prelude.{ℕ, ◌<◌, ◌≤◌, ◌≡◌, true, List, length, Result, Ok, Err}
 use Rattle.directory.specs.Blocks.{walked, broken, chain, block_end}
 use Rattle.directory.specs.Links.{slots_after, block_after, blocks_after}
 use Rattle.directory.specs.declared.chain.Shape.{Shape}
-use Rattle.directory.specs.declared.chain.Walked.{Walked}
-use Rattle.directory.specs.declared.chain.Walked.TheVariants.{Whole, Broken}
+use Rattle.answer.specs.Refusals.{number_of}
+use Rattle.answer.specs.declared.Refusal.{Refusal}
 
 -- the first blocks all end at or before a place
 abbrev pub EndBelow : List ℕ → ℕ → ℕ → Type 0
@@ -30,7 +30,7 @@ pub record InChain (s : List ℕ) (blocks k b : ℕ) : Type 0 where
   pub whole : block_end s b ≤ length s
 
 -- what the walk tells: the shape of the whole chain, or its first fault
-abbrev pub WalkedTo : List ℕ → Walked → Type 0
-WalkedTo s (Whole c) =
+abbrev pub WalkedTo : List ℕ → Result Shape Refusal → Type 0
+WalkedTo s (Ok c) =
     (chain s ≡ walked (blocks_after s c.blocks 4)) × (length (slots_after s c.blocks 4) ≡ c.slots) × Laid s c
-WalkedTo s (Broken r) = chain s ≡ broken r.number r.place
+WalkedTo s (Err r) = chain s ≡ broken (number_of r.rule) r.place

@@ -1,6 +1,8 @@
 -- What the rules of slots come to, block by block. Assumes nothing.
-use Rattle.std.specs.Prelude.{ℕ, ◌+◌, ◌*◌, ◌-◌, ◌≤◌, ◌≡◌, List, []}
+use Rattle.std.specs.Prelude.{ℕ, ◌+◌, ◌*◌, ◌-◌, ◌≤◌, ◌≡◌, List, [], Result, Ok, Err}
+use Rattle.answer.specs.Refusals.{number_of}
 use Rattle.answer.specs.Answer.{refuse}
+use Rattle.answer.specs.declared.Refusal.{Refusal}
 use Rattle.directory.specs.Opening.{slots_from}
 use Rattle.directory.specs.Links.{slots_after, block_after, blocks_after}
 use Rattle.directory.specs.Steps.Gaps.{Placed}
@@ -13,7 +15,6 @@ pub record Reached (s : List ℕ) (blocks k live : ℕ) : Type 0 where
   pub few : live ≤ 65536 * k
 
 -- the slots of block k break a rule, which is the answer, or none
-pub record Checks (s : List ℕ) (blocks k : ℕ) (r : Checked) : Type 0 where
-  pub bad : (r.fault ≡ 0 → ⊥) → slots_from s (blocks_after s blocks 4) [] (slots_after s blocks 4) 0 ≡ refuse 3 r.fault r.place
-  pub good : r.fault ≡ 0 → Reached s blocks (k + 1) r.live
-  pub placed : Placed s blocks r.gap
+abbrev pub Checks : List ℕ → ℕ → ℕ → Result Checked Refusal → Type 0
+Checks s blocks k (Ok c) = Reached s blocks (k + 1) c.live × Placed s blocks c.gap
+Checks s blocks k (Err r) = slots_from s (blocks_after s blocks 4) [] (slots_after s blocks 4) 0 ≡ refuse 3 (number_of r.rule) r.place

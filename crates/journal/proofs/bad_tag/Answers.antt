@@ -1,19 +1,21 @@
 -- `journal::bad_tag` meets its contract. Assumes nothing.
+use native.Mathlib.Omega.{arith}
 use mathlib.Core.Path.{sym}
+use mathlib.Core.Logic.{inl, inr}
 use Rattle.journal.proofs.Outcomes
 use Rattle.journal.proofs.bad_tag.Goals as goal
 
-pub returns-then-tag-eq0 : goal.returns-then-tag-eq0
-returns-then-tag-eq0 c = sym (Outcomes.bad_zero _ c.if-tag-eq0.true)
+pub returns-in-0 : goal.returns-in-0
+returns-in-0 c = sym (Outcomes.tag_other _ (λ g. omega arith))
 
-pub returns-then-tag-eq-FREE : goal.returns-then-tag-eq-FREE
-returns-then-tag-eq-FREE c = sym (Outcomes.bad_free _ c.if-tag-eq0.false c.if-tag-eq-FREE.true)
+pub returns-in-0-2 : goal.returns-in-0-2
+returns-in-0-2 c = sym (Outcomes.tag_other _ (λ g. omega arith))
 
-pub returns-then-tag-eq-LONE : goal.returns-then-tag-eq-LONE
-returns-then-tag-eq-LONE c = sym (Outcomes.bad_lone _ c.if-tag-eq0.false c.if-tag-eq-FREE.false c.if-tag-eq-LONE.true)
+pub returns-in-0-3 : goal.returns-in-0-3
+returns-in-0-3 c = sym (Outcomes.tag_other _ (λ g. omega arith))
 
-pub returns-then-tag-lt-EXTENDED_FIRST : goal.returns-then-tag-lt-EXTENDED_FIRST
-returns-then-tag-lt-EXTENDED_FIRST c = sym (Outcomes.good_below _ c.if-tag-eq0.false c.if-tag-eq-FREE.false c.if-tag-eq-LONE.false c.if-tag-lt-EXTENDED_FIRST.true)
+pub returns-in_default : goal.returns-in_default
+returns-in_default c = sym (Outcomes.tag_bad _ (λ e. omega arith, λ e. omega arith, λ e. omega arith, inl (omega arith)))
 
-pub returns : goal.returns
-returns c = sym (Outcomes.bad_extended _ c.if-tag-eq0.false c.if-tag-eq-FREE.false c.if-tag-eq-LONE.false c.if-tag-lt-EXTENDED_FIRST.false)
+pub returns-in_default-2 : goal.returns-in_default-2
+returns-in_default-2 c = sym (Outcomes.tag_bad _ (λ e. omega arith, λ e. omega arith, λ e. omega arith, inr (omega arith)))

@@ -1,24 +1,24 @@
 -- `journal::put_new` meets its contract. Assumes nothing.
 use native.Mathlib.Omega.{arith}
 use mathlib.Core.Path.{sym, ◌∙◌}
-use lib.Seq.{length-take-le}
 use Rattle.journal.proofs.Adding
 use Rattle.journal.proofs.put_new.Goals as goal
-
-pub slice_bounds-find_room-end-2 : goal.slice_bounds-find_room-end-2
-slice_bounds-find_room-end-2 c = sym (length-take-le _ _ (omega arith))
+use Rattle.journal.proofs.put_new.Goals.{then-counts-ge-MOST_BLOCKS-via-then-counts-ge-MOST_BLOCKS, then-counts-ge-MOST_BLOCKS-via-else-counts-ge-MOST_BLOCKS+then-counts-gt-MOST_SLOTS}
 
 pub put_slot-requires : goal.put_slot-requires
 put_slot-requires c = Adding.slot_room _ _ _ _ _ c.requires.0 c.requires.1 _ (sym c.find_room-room.ensures ∙ c.in-Slot.is)
 
-pub returns-then-counts-ge-MOST_BLOCKS : goal.returns-then-counts-ge-MOST_BLOCKS
-returns-then-counts-ge-MOST_BLOCKS c = Adding.add_blocks _ _ _ _ _ c.requires.0 c.requires.1 _ (sym c.find_room-room.ensures ∙ c.in-Block.is) _ _ _ _ c.if-counts-ge-MOST_BLOCKS.true
-
 pub overflow_add-counts : goal.overflow_add-counts
 overflow_add-counts c = omega (arith, Adding.slots_few _ _ _ _ _ c.requires.0 c.requires.1)
 
-pub returns-then-counts-gt-MOST_SLOTS : goal.returns-then-counts-gt-MOST_SLOTS
-returns-then-counts-gt-MOST_SLOTS c = Adding.add_slots _ _ _ _ _ c.requires.0 c.requires.1 _ (sym c.find_room-room.ensures ∙ c.in-Block.is) _ _ _ _ c.if-counts-gt-MOST_SLOTS.true
+pub returns-then-counts-ge-MOST_BLOCKS : goal.returns-then-counts-ge-MOST_BLOCKS
+returns-then-counts-ge-MOST_BLOCKS c =
+    let room = sym c.find_room-room.ensures ∙ c.in-Block.is in
+    rw c.at.ensures
+    (elim c.then-counts-ge-MOST_BLOCKS.branch [
+      | then-counts-ge-MOST_BLOCKS-via-then-counts-ge-MOST_BLOCKS w ↦ Adding.add_blocks _ _ _ _ _ c.requires.0 c.requires.1 _ room _ _ _ _ w.if-counts-ge-MOST_BLOCKS.true
+      | then-counts-ge-MOST_BLOCKS-via-else-counts-ge-MOST_BLOCKS+then-counts-gt-MOST_SLOTS w ↦ Adding.add_slots _ _ _ _ _ c.requires.0 c.requires.1 _ room _ _ _ _ w.if-counts-gt-MOST_SLOTS.true
+    ])
 
 pub put_block-requires : goal.put_block-requires
 put_block-requires c = Adding.last_room _ _ _ _ _ c.requires.0 c.requires.1 _ (sym c.find_room-room.ensures ∙ c.in-Block.is)

@@ -1,26 +1,21 @@
 -- `journal::put_slot` meets its contract. Assumes nothing.
 use native.Mathlib.Omega.{arith}
-use mathlib.Core.Path.{sym, ◌∙◌}
-use lib.Seq.{length-take-le}
+use mathlib.Core.Path.{sym, ap, ◌∙◌}
+use Rattle.answer.specs.Refusals.{fault_of}
 use Rattle.journal.proofs.Outcomes
 use Rattle.journal.proofs.Laid
 use Rattle.journal.proofs.put_slot.Goals as goal
 
-pub returns-then-number-ne0 : goal.returns-then-number-ne0
-returns-then-number-ne0 c = Laid.slot_refused _ _ _ c.requires.1 c.requires.2 _ _ _ _ _ c.fit_fault-number.ensures c.if-number-ne0.true
-
-pub slice_bounds-change_at-end-2 : goal.slice_bounds-change_at-end-2
-slice_bounds-change_at-end-2 c = sym (length-take-le _ _ (omega arith))
+pub returns-in-Err : goal.returns-in-Err
+returns-in-Err c =
+    rw c.at.ensures (Laid.slot_refused _ _ _ c.requires.1 c.requires.2 _ _ _ _ _ (sym (ap fault_of c.in-Err.is) ∙ c.check_fit.ensures))
 
 pub write_trailer-requires : goal.write_trailer-requires
-write_trailer-requires c = omega (arith, Outcomes.fits _ _ (sym c.fit_fault-number.ensures ∙ c.if-number-ne0.false))
-
-pub overflow_add-result : goal.overflow_add-result
-overflow_add-result c = omega (arith, Outcomes.fits _ _ (sym c.fit_fault-number.ensures ∙ c.if-number-ne0.false))
+write_trailer-requires c = omega (arith, Outcomes.fits _ _ (sym c.check_fit.ensures ∙ ap fault_of c.in_default.is))
 
 pub returns : goal.returns
 returns c =
     Laid.slot_granted _ _ _ c.requires.1 c.requires.2 _ _ _ _ _ _
-    (sym c.fit_fault-number.ensures ∙ c.if-number-ne0.false)
+    (sym c.check_fit.ensures ∙ ap fault_of c.in_default.is)
     c.change_at-change.ensures c.offset_of.ensures c.write_bytes.ensures
     c.write_trailer.ensures c.write_slot.ensures

@@ -1,5 +1,5 @@
 -- What undo reads of a trailer, and what it has found out before it puts old bytes back. Assumes nothing.
-use Rattle.std.specs.Prelude.{ℕ, ◌+◌, ◌-◌, ◌≤◌, ◌≡◌, List, true, length, take}
+use Rattle.std.specs.Prelude.{ℕ, ◌+◌, ◌-◌, ◌≤◌, ◌≡◌, List, true, length, take, Some}
 use Rattle.wire.specs.Numbers.{be}
 use Rattle.directory.specs.Opening.{open_of}
 use Rattle.journal.specs.Trailers.{form_size, trailer_at, carried_by, named, change_at}
@@ -7,7 +7,6 @@ use Rattle.journal.specs.Undos.{known}
 use Rattle.journal.specs.declared.change.Change.{Change}
 use Rattle.journal.specs.declared.change.Form.{Form}
 use Rattle.journal.specs.declared.change.Form.TheVariants.{Old, Long}
-use Rattle.journal.specs.declared.change.Ending.TheVariants.{Trailer}
 
 -- the desk of a trailer at t
 unfoldable pub desk_at : Form → List ℕ → ℕ → ℕ
@@ -18,7 +17,7 @@ desk_at Long s t = be 4 s (t + 28)
 pub record Trailed (buffer : List ℕ) (n : ℕ) (form : Form) : Type 0 where
   pub fits : n ≤ length buffer
   pub opens : (open_of (take n buffer)).number ≡ 0
-  pub ending : carried_by (take n buffer) ≡ Trailer form
+  pub ending : carried_by (take n buffer) ≡ Some form
 
 -- which records the change
 pub record Carrying (buffer : List ℕ) (n : ℕ) (form : Form) (change : Change) : Type 0 where

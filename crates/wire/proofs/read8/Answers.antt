@@ -1,12 +1,12 @@
 -- `wire::read8` meets its contract. Assumes nothing.
 use native.Mathlib.Omega.{arith}
-use mathlib.Core.Path.{sym, ◌∙◌}
+use Rattle.std.proofs.Common.{rules}
 use Rattle.wire.specs.declared.ByteOrder.TheVariants.{BigEndian}
 use Rattle.wire.proofs.Numbers
 use Rattle.wire.proofs.read8.Goals as goal
 
-pub returns-then-at-s : goal.returns-then-at-s
-returns-then-at-s c = record { is = c.wide.ensures.0 ∙ sym (Numbers.number_one BigEndian _ _); small = c.wide.ensures.1 }
+pub returns-in-Some : goal.returns-in-Some
+returns-in-Some c = Numbers.reads_byte BigEndian _ _ _ (let h = c.in-Some.ensures in search rules) (λ i. omega (arith, c.type_inv.s i))
 
-pub returns : goal.returns
-returns c = Numbers.reads_past BigEndian 1 _ _ (omega (arith, c.if-at-s.false))
+pub returns-in-None : goal.returns-in-None
+returns-in-None c = Numbers.reads_past BigEndian 1 _ _ (let h = c.in-None.ensures in search rules)

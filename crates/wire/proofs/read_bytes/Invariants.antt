@@ -1,10 +1,7 @@
 -- `wire::read_bytes` meets its contract. The invariant: n is the number in the i highest bytes. Assumes nothing.
-use Prim.Native.Nat.{◌≤◌, ◌-◌}
+use Prim.Native.Nat.{◌-◌}
 use Rattle.wire.specs.Numbers.{high_at, ReadsIn}
 use Rattle.wire.proofs.read_bytes.Given as goal
 
 abbrev pub invariant-loop-i : goal.invariant-loop-i
-invariant-loop-i l = (l.i ≤ l.count) × ReadsIn l.order l.i l.s (high_at l.order (l.count - l.i) l.at) l.n
-
-abbrev pub decreases-loop-i : goal.decreases-loop-i
-decreases-loop-i l = l.count - l.i
+invariant-loop-i l = ReadsIn l.order l.i l.s (high_at l.order (l.count - l.i) l.at) l.n

@@ -1,12 +1,8 @@
 -- `wire::write_bytes` meets its contract. The invariant: the first i bytes are put in place. Assumes nothing.
-use Prim.Native.Nat.{◌≤◌, ◌-◌}
 use mathlib.Core.Path.{◌≡◌}
 use lib.ListN.{take}
 use Rattle.wire.specs.Numbers.{put}
 use Rattle.wire.proofs.write_bytes.Given as goal
 
 abbrev pub invariant-loop-i : goal.invariant-loop-i
-invariant-loop-i l = (l.i ≤ l.count) × (l.s ≡ put l.initial.s l.at (take l.i l.vs))
-
-abbrev pub decreases-loop-i : goal.decreases-loop-i
-decreases-loop-i l = l.count - l.i
+invariant-loop-i l = l.s ≡ put l.initial.s l.at (take l.i l.vs)

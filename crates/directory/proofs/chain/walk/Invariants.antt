@@ -6,11 +6,8 @@ use Rattle.directory.proofs.Links
 use Rattle.directory.proofs.Blocks
 use Rattle.directory.proofs.chain.walk.Given as goal
 
-abbrev pub invariant-loop-left : goal.invariant-loop-left
-invariant-loop-left l = Links.Following l.image (meets_block l.image l.at l.end) l.blocks l.b l.left
-
-abbrev pub decreases-loop-left : goal.decreases-loop-left
-decreases-loop-left l = l.left
+abbrev pub invariant-loop-passed : goal.invariant-loop-passed
+invariant-loop-passed l = Links.Following l.image (meets_block l.image l.at l.end) l.blocks l.b (l._passed-end - l._passed)
 
 abbrev pub invariant-chain : goal.invariant-chain
 invariant-chain l = Blocks.Before l.image l.at l.blocks l.slots l.top l.rising

@@ -1,24 +1,11 @@
 -- `directory::doubts::find` meets its contract. The invariant: the windows so far are noted, if they are marked. Assumes nothing.
-use native.Mathlib.Omega.{arith}
-use mathlib.Core.Path.{refl, sym, ◌∙◌}
+use mathlib.Core.Path.{sym, ◌∙◌}
 use Rattle.directory.proofs.Doubting
 use Rattle.directory.proofs.doubts.find.Goals as goal
 use Rattle.directory.proofs.doubts.find.Goals.{then-is_set, else-is_set}
 
-pub suspect-requires : goal.suspect-requires
-suspect-requires c = (c.requires.0, refl)
-
 pub loop-window-init : goal.loop-window-init
 loop-window-init c = Doubting.noticed_start _ _ _ _ c.requires.1
-
-pub note-requires : goal.note-requires
-note-requires c = (c.requires.0, c.loop-window.invariant.wide)
-
-pub overflow_add-window : goal.overflow_add-window
-overflow_add-window c = omega (arith, c.loop-window-test.true)
-
-pub loop-window-smaller : goal.loop-window-smaller
-loop-window-smaller c = omega (arith, c.loop-window-test.true)
 
 pub loop-window-preserved : goal.loop-window-preserved
 loop-window-preserved c =

@@ -1,10 +1,10 @@
 -- `directory::doubts::raise` meets its contract. Assumes nothing.
-use native.Mathlib.Omega.{arith}
+use borrow.Author.Tests.{lt-ltb, le-ltb}
 use Rattle.directory.proofs.Doubting
 use Rattle.directory.proofs.doubts.raise.Goals as goal
 
-pub returns-then-highest-bucket : goal.returns-then-highest-bucket
-returns-then-highest-bucket c = Doubting.raised_more _ _ c.requires.0 c.if-highest-bucket.true
+pub returns-then-below : goal.returns-then-below
+returns-then-below c = rw (lt-ltb _ _ c.if-below.true) (Doubting.raised_more _ _ c.requires.0 c.if-below.true)
 
-pub returns : goal.returns
-returns c = Doubting.raised_same _ _ c.requires.0 (omega (arith, c.if-highest-bucket.false))
+pub returns-else-below : goal.returns-else-below
+returns-else-below c = rw (le-ltb _ _ c.if-below.false) (Doubting.raised_same _ _ c.requires.0 c.if-below.false)

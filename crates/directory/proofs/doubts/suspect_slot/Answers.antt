@@ -8,10 +8,10 @@ returns-then-read16-eq-FREE c =
     let p = c.requires in
     Doubting.suspect_free _ _ _ _ p.1 p.2 (sym c.read16.ensures.is ∙ c.if-read16-eq-FREE.true)
 
-pub returns-then-raise : goal.returns-then-raise
-returns-then-raise c = Doubting.suspect_above _ _ _ _ _ c.of-key.ensures _ c.requires.2 (rw c.if-raise.true at c.raise.ensures)
-
-pub returns : goal.returns
-returns c =
+pub returns-then-not-raise : goal.returns-then-not-raise
+returns-then-not-raise c =
     let m = c.mark.ensures in
-    rw c.set.ensures (Doubting.suspect_marked _ _ _ _ _ c.of-key.ensures _ c.requires.2 (rw c.if-raise.false at c.raise.ensures) _ m.0 m.1)
+    rw c.set.ensures (Doubting.suspect_marked _ _ _ _ _ c.of-key.ensures _ c.requires.2 (rw c.if-not-raise.true at c.raise.ensures) _ m.0 m.1)
+
+pub returns-else-not-raise : goal.returns-else-not-raise
+returns-else-not-raise c = Doubting.suspect_above _ _ _ _ _ c.of-key.ensures _ c.requires.2 (rw c.if-not-raise.false at c.raise.ensures)

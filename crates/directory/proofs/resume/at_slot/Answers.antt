@@ -1,17 +1,16 @@
 -- `directory::resume::at_slot` meets its contract. Assumes nothing.
 use native.Mathlib.Omega.{arith}
-use mathlib.Core.Path.{sym}
+use mathlib.Core.Path.{sym, ◌∙◌}
+use mathlib.Core.Logic.{⊎_elim}
+use borrow.Author.Tests.{lt-leb}
 use Rattle.directory.proofs.Resuming
 use Rattle.directory.proofs.resume.at_slot.Goals as goal
 
 pub returns-then-at-eq0 : goal.returns-then-at-eq0
-returns-then-at-eq0 c = sym (Resuming.no_slot _ c.if-at-eq0.true)
-
-pub returns-then-at-gt-MOST_PLACE : goal.returns-then-at-gt-MOST_PLACE
-returns-then-at-gt-MOST_PLACE c = sym (Resuming.slot_far _ c.if-at-eq0.false (omega (arith, c.if-at-gt-MOST_PLACE.true)))
+returns-then-at-eq0 c = sym (⊎_elim (λ e. Resuming.no_slot _ e) (λ e. Resuming.slot_far _ e.0 (omega (arith, e.1))) c.then-at-eq0.either)
 
 pub returns-then-at : goal.returns-then-at
-returns-then-at c = sym (Resuming.slot_far _ c.if-at-eq0.false (omega (arith, c.if-at-gt-MOST_PLACE.false, c.if-at.true)))
+returns-then-at c = sym (Resuming.slot_near _ c.if-at-eq0.false (omega arith))
 
-pub returns : goal.returns
-returns c = sym (Resuming.slot_near _ c.if-at-eq0.false (omega (arith, c.if-at-gt-MOST_PLACE.false, c.if-at.false)))
+pub returns-else-at : goal.returns-else-at
+returns-else-at c = lt-leb _ _ c.if-at.false ∙ sym (Resuming.slot_far _ c.if-at-eq0.false (omega arith))

@@ -1,13 +1,14 @@
 -- `directory::slot::base` meets its contract. Assumes nothing.
+use native.Mathlib.Omega.{arith}
 use mathlib.Core.Path.{sym}
 use Rattle.directory.proofs.Slots
 use Rattle.directory.proofs.slot.base.Goals as goal
 
-pub returns-then-tag-lt-EXTENDED_FIRST : goal.returns-then-tag-lt-EXTENDED_FIRST
-returns-then-tag-lt-EXTENDED_FIRST c = sym (Slots.base_below _ c.if-tag-lt-EXTENDED_FIRST.true)
+pub returns-in-16384-to-32767 : goal.returns-in-16384-to-32767
+returns-in-16384-to-32767 c = sym (Slots.base_between _ (omega arith) (omega arith))
 
-pub returns-then-tag-gt-EXTENDED_LAST : goal.returns-then-tag-gt-EXTENDED_LAST
-returns-then-tag-gt-EXTENDED_LAST c = sym (Slots.base_above _ c.if-tag-gt-EXTENDED_LAST.true)
+pub returns-in_default : goal.returns-in_default
+returns-in_default c = sym (Slots.base_below _ (omega arith))
 
-pub returns : goal.returns
-returns c = sym (Slots.base_between _ c.if-tag-lt-EXTENDED_FIRST.false c.if-tag-gt-EXTENDED_LAST.false)
+pub returns-in_default-2 : goal.returns-in_default-2
+returns-in_default-2 c = sym (Slots.base_above _ (omega arith))

@@ -8,7 +8,6 @@ use lib.ListN.{set}
 use Rattle.hdf4.specs.declared.field_table.Field.{Field}
 use Rattle.hdf4.specs.declared.field_table.Reading.{Reading}
 use Rattle.hdf4.specs.Steps.{field_in, filled}
-use Rattle.hdf4.specs.VsetAnswers.{vdata_answer}
 use Rattle.hdf4.proofs.Tables.{filled_whole}
 use Rattle.hdf4.proofs.field_table.hdf4_read_fields.Goals as goal
 
@@ -19,19 +18,17 @@ filled_next s r k t = rw (add-one k) refl
 
 pub loop-i-init : goal.loop-i-init
 unfolding filled
-loop-i-init c = (omega arith, refl)
+loop-i-init c = refl
 
 pub loop-i-preserved : goal.loop-i-preserved
-loop-i-preserved c =
-    let l = c.loop-i in
-    (omega arith, rw (l.invariant.1, c.field_at-f.ensures) (sym (filled_next _ _ _ _)))
+loop-i-preserved c = rw (c.loop-i.invariant, c.field_at.ensures) (sym (filled_next _ _ _ _))
 
 pub returns : goal.returns
 returns c =
     let l = c.loop-i in
     let read = c.read_head-r.ensures in
-    let all : l.i ≡ c.read_head-r.result.fields = omega (arith, c.count_of-n.ensures) in
+    let all : l.i ≡ c.read_head-r.result.fields = omega arith in
     record {
-      answers = ap vdata_answer c.answer_of-answer.ensures ∙ read.answers;
-      leaves = l.invariant.1 ∙ ap (λ k. filled c.args.image.now c.read_head-r.result k c.args.table.now) all ∙ filled_whole _ c.args.reference _ _ read;
+      answers = read.answers;
+      leaves = l.invariant ∙ ap (λ k. filled c.args.image.now c.read_head-r.result k c.args.table.now) all ∙ filled_whole _ c.args.reference _ _ read;
     }

@@ -1,10 +1,11 @@
 -- `journal::write::offset_of` meets its contract. Assumes nothing.
-use mathlib.Core.Path.{sym}
+use mathlib.Core.Path.{sym, ◌∙◌}
+use borrow.Author.Tests.{eqb-true, eqb-false}
 use Rattle.journal.proofs.Runs
 use Rattle.journal.proofs.write.offset_of.Goals as goal
 
-pub returns-then-content-eq0 : goal.returns-then-content-eq0
-returns-then-content-eq0 c = sym (Runs.offset_empty _ _ c.if-content-eq0.true)
+pub returns-then-is_empty : goal.returns-then-is_empty
+returns-then-is_empty c = sym (Runs.offset_empty _ _ (eqb-true _ _ (sym c.is_empty.ensures ∙ c.if-is_empty.true)))
 
-pub returns : goal.returns
-returns c = sym (Runs.offset_full _ _ c.if-content-eq0.false)
+pub returns-else-is_empty : goal.returns-else-is_empty
+returns-else-is_empty c = sym (Runs.offset_full _ _ (eqb-false _ _ (sym c.is_empty.ensures ∙ c.if-is_empty.false)))

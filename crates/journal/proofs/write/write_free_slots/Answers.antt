@@ -1,25 +1,20 @@
 -- `journal::write::write_free_slots` meets its contract. The invariant: i slots are written. Assumes nothing.
 use native.Mathlib.Omega.{arith}
-use mathlib.Core.Path.{◌≡◌, refl, ap, ◌∙◌}
-use lib.ListN.{length}
+use mathlib.Core.Path.{◌≡◌, refl}
 use Rattle.wire.specs.Numbers.{put}
-use Rattle.wire.proofs.Numbers.{length_put}
 use Rattle.journal.specs.Edits.{free_slots}
 use Rattle.journal.proofs.Runs
 use Rattle.journal.proofs.write.write_free_slots.Goals as goal
 
 pub loop-i-init : goal.loop-i-init
 unfolding put free_slots
-loop-i-init c = (omega arith, refl)
+loop-i-init c = refl
 
 pub loop-i-preserved : goal.loop-i-preserved
-loop-i-preserved c = (omega arith, Runs.free_more _ _ c.loop-i.i c.loop-i.invariant.1 c.write_slot.ensures)
-
-pub shape_of-buffer : goal.shape_of-buffer
-shape_of-buffer c = ap length c.loop-i.invariant.1 ∙ length_put _ _ _
+loop-i-preserved c = Runs.free_more _ _ c.loop-i.i c.loop-i.invariant c.write_slot.ensures
 
 pub returns : goal.returns
 returns c =
     let l = c.loop-i in
     let e : l.i ≡ c.args.count = omega arith in
-    rw (← e) l.invariant.1
+    rw (← e) l.invariant

@@ -14,13 +14,13 @@ pub returns-in_default : goal.returns-in_default
 unfolding array_of
 returns-in_default c =
     let o = c.open-opened.ensures in
-    let told = c.in_default.is in
-    (Opens.unopened_does _ _ o 1 _ _ _ _ told _ c.refusal_of.ensures, Opens.unopened_does _ _ o 1 _ _ _ _ told _ c.refusal_of.ensures)
+    let told = c.unwrap_err.ensures in
+    (Opens.unopened_does _ _ o 1 _ _ _ _ told, Opens.unopened_does _ _ o 1 _ _ _ _ told)
 
 pub returns : goal.returns
 unfolding array_of
 returns c =
-    let o = Opens.accepted_with _ _ c.open-opened.ensures _ c.in-Accepted.is in
+    let o = Opens.accepted_with _ _ c.open-opened.ensures _ c.in-Ok.is in
     let a = c.args in
     let answer : Hit → Answer = λ h. array_at a.image.now h (length a.sizes.now) (length a.pairs.now) in
     let sizes : Hit → List ℕ = λ h. array_sizes (record_bytes a.image.now h) in

@@ -5,7 +5,7 @@ use Rattle.records.proofs.NumberTypes
 use Rattle.records.proofs.number_type.pack.Goals as goal
 
 pub returns-then-out-lt4 : goal.returns-then-out-lt4
-returns-then-out-lt4 c = Packings.packs_small _ _ _ refl (rw NumberTypes.length_number_type c.if-out-lt4.true)
+returns-then-out-lt4 c = rw c.at.ensures (Packings.packs_small _ _ _ refl (rw NumberTypes.length_number_type c.if-out-lt4.true))
 
 pub returns : goal.returns
 returns c =

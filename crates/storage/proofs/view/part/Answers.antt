@@ -5,9 +5,9 @@ use Rattle.storage.specs.Views.{viewed_numbers}
 use Rattle.storage.proofs.Views
 use Rattle.storage.proofs.view.part.Goals as goal
 
-pub returns-in-Part : goal.returns-in-Part
-returns-in-Part c = c.part.ensures ∙ sym (Views.bytes_granted _ _ _ _ (sym c.numbers.ensures ∙ ap viewed_numbers c.in-Part.is))
+pub returns-in-Ok : goal.returns-in-Ok
+returns-in-Ok c = c.bytes.ensures ∙ sym (Views.bytes_granted _ _ _ _ (sym c.numbers.ensures ∙ ap viewed_numbers c.in-Ok.is))
 
-pub returns-in-Refused : goal.returns-in-Refused
+pub returns-in-Err : goal.returns-in-Err
 unfolding part
-returns-in-Refused c = c.part-in-Refused.ensures ∙ sym (Views.bytes_refused _ _ c.in-Refused.field-0 (sym c.numbers.ensures ∙ ap viewed_numbers c.in-Refused.is))
+returns-in-Err c = sym (Views.bytes_refused _ _ c.in-Err.field-0 (sym c.numbers.ensures ∙ ap viewed_numbers c.in-Err.is))

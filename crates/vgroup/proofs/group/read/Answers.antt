@@ -1,7 +1,7 @@
 -- `vgroup::group::read` meets its contract. Assumes nothing.
 use Prim.Native.Nat.{ℕ}
 use mathlib.Core.List.{List}
-use mathlib.Core.Path.{sym, ap, subst, ◌∙◌}
+use mathlib.Core.Path.{subst}
 use lib.ListN.{length}
 use Rattle.answer.specs.Answer.{Answer}
 use Rattle.answer.specs.Search.{Hit}
@@ -15,19 +15,13 @@ use Rattle.vgroup.proofs.group.read.Goals as goal
 pub returns-in_default : goal.returns-in_default
 unfolding group_of
 returns-in_default c =
-    let o = c.open-opened.ensures in
-    let told = c.in_default.is in
-    let taken = c.refusal_of.ensures in
-    record {
-      answer = Opens.unopened_does _ _ o 9 _ _ _ _ told _ taken;
-      held = λ z. Opens.refused_positive _ _ o _ told (sym (ap (λ r. r.number) taken) ∙ z);
-    }
+    record { answer = Opens.unopened_does _ _ c.open-opened.ensures 9 _ _ _ _ c.unwrap_err.ensures; held = tt }
 
 pub returns : goal.returns
 unfolding group_of
 returns c =
     let a = c.args in
-    let o = Opens.accepted_with _ _ c.open-opened.ensures _ c.in-Accepted.is in
+    let o = Opens.accepted_with _ _ c.open-opened.ensures _ c.in-Ok.is in
     let answer : Hit → Answer = λ h. group_at a.image.now h (length a.members.now) in
     let members : Hit → List ℕ = λ h. group_members (record_bytes a.image.now h) in
     let r = c.read_in in

@@ -1,6 +1,6 @@
 -- `vgroup::listing::nested` and `walk`, which call each other, meet their contracts. The measure is how many groups may still be entered.
 -- Assumes nothing.
-use Prim.Native.Nat.{◌+◌, ◌*◌, ◌-◌}
+use Prim.Native.Nat.{◌+◌, ◌*◌}
 use Rattle.vgroup.proofs.Listings
 use Rattle.vgroup.proofs.listing.+nested_walk.Given as goal
 
@@ -10,8 +10,5 @@ decreases-nested l = 2 * l.more + 1
 abbrev pub decreases-walk : goal.decreases-walk
 decreases-walk l = 2 * l.groups
 
-abbrev pub invariant-walk-members : goal.invariant-walk-members
-invariant-walk-members l = Listings.Walking l.image l.part l.slot l.groups l.room l.at l.initial.table l.count l.table l.pairs l.i
-
-abbrev pub decreases-walk-members : goal.decreases-walk-members
-decreases-walk-members l = l.count - l.i
+abbrev pub invariant-walk-loop-i : goal.invariant-walk-loop-i
+invariant-walk-loop-i l = Listings.Walking l.image l.part l.found.slot l.groups l.room l.at l.initial.table l.count l.table l.pairs l.i

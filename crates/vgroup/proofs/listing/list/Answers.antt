@@ -1,10 +1,9 @@
 -- `vgroup::listing::list` meets its contract. Assumes nothing.
 use Prim.Native.Nat.{ℕ}
 use native.Mathlib.Omega.{arith}
-use mathlib.Core.Path.{ap, ◌∙◌}
-use Rattle.storage.specs.Elements.{refusal_in}
 use mathlib.Core.List.{List}
 use lib.ListN.{length}
+use Rattle.std.proofs.lemmas.Result.{err_from_is_err_and}
 use Rattle.answer.specs.Answer.{Answer}
 use Rattle.answer.specs.Lent.{Does}
 use Rattle.directory.specs.Lookup.{find}
@@ -15,14 +14,14 @@ use Rattle.vgroup.specs.Listings.{listing_at, listing_of, pairs_of}
 use Rattle.vgroup.proofs.ListingsFound
 use Rattle.vgroup.proofs.ListingsAnswered
 use Rattle.vgroup.proofs.listing.list.Goals as goal
-use Rattle.vgroup.proofs.listing.list.Goals.{In-Accepted}
+use Rattle.vgroup.proofs.listing.list.Goals.{In-Ok}
 
--- the image opened, and the group is sound
-opens : (c : In-Accepted) → Opens c.args.image.now c.in-Accepted.counts.blocks
-opens c = Opens.accepted_with _ _ c.open-opened.ensures _ c.in-Accepted.is
+-- the image opened
+opens : (c : In-Ok) → Opens c.args.image.now c.in-Ok.counts.blocks
+opens c = Opens.accepted_with _ _ c.open-opened.ensures _ c.in-Ok.is
 
 -- what the call goes on to
-goes : (c : In-Accepted) (after : List ℕ) (numbers : Answer) → let a = c.args in
+goes : (c : In-Ok) (after : List ℕ) (numbers : Answer) → let a = c.args in
     Does (listing_at a.image.now (find a.image.now group_tag a.reference) (length a.table.now)) (pairs_of a.image.now a.reference (length a.table.now)) a.table.now after numbers
     → Does (listing_of a.image.now a.reference (length a.table.now)) (pairs_of a.image.now a.reference (length a.table.now)) a.table.now after numbers
 unfolding listing_of
@@ -30,22 +29,29 @@ goes c after numbers d = rw (Opens.opened_goes 1 _ _ (opens c).sound) d
 
 pub returns-in_default : goal.returns-in_default
 unfolding listing_of
-returns-in_default c = Opens.unopened_does _ _ c.open-opened.ensures 1 _ _ _ _ c.in_default.is _ c.refusal_of.ensures
+returns-in_default c = Opens.unopened_does _ _ c.open-opened.ensures 1 _ _ _ _ c.unwrap_err.ensures
 
-pub returns-in_default-located : goal.returns-in_default-located
-returns-in_default-located c =
-    goes (goal.at.returns-in_default-located c).In-Accepted _ _ (ListingsAnswered.unnamed _ _ _ _ (ListingsFound.group_found _ _ _ (opens (goal.at.returns-in_default-located c).In-Accepted) _ c.find-located.ensures _ c.in_default-located.is) _ (c.refusal_of-in_default-located.ensures ∙ ap refusal_in c.in_default-located.is))
+pub returns-in_err-found : goal.returns-in_err-found
+returns-in_err-found c =
+    let opened = (goal.at.returns-in_err-found c).In-Ok in
+    let p = err_from_is_err_and c.from_residual.result c.from_residual.ensures.1 in
+    rw (p.1, p.2)
+    (goes opened _ _ (ListingsAnswered.unnamed _ _ _ _ (ListingsFound.group_found _ _ _ (opens opened) _ c.find.ensures _ c.in_err-found.was)))
 
-pub walk-judged-requires : goal.walk-judged-requires
-walk-judged-requires c = (opens (goal.at.walk-judged-requires c).In-Accepted, omega arith, omega (arith, c.least-room.ensures))
+pub walk-requires : goal.walk-requires
+walk-requires c = (opens (goal.at.walk-requires c).In-Ok, omega arith, omega (arith, c.min-room.ensures))
 
-pub returns-then-judged-ne0 : goal.returns-then-judged-ne0
-returns-then-judged-ne0 c =
-    goes (goal.at.returns-then-judged-ne0 c).In-Accepted _ _ (ListingsAnswered.judged_refused _ _ _ _ _ _ ((ListingsFound.group_found _ _ _ (opens (goal.at.returns-then-judged-ne0 c).In-Accepted) _ c.find-located.ensures _ c.in-Plain.is)) _ c.least-room.ensures _ c.part-part.ensures _ _ c.walk-judged.ensures c.if-judged-ne0.true)
+pub returns-in_err-walk : goal.returns-in_err-walk
+returns-in_err-walk c =
+    let opened = (goal.at.returns-in_err-walk c).In-Ok in
+    let p = err_from_is_err_and c.from_residual-in_err-walk.result c.from_residual-in_err-walk.ensures.1 in
+    rw (p.1, p.2)
+    (goes opened _ _ (ListingsAnswered.judged_refused _ _ _ _ (ListingsFound.group_found _ _ _ (opens opened) _ c.find.ensures _ c.in_ok-found.was) _ c.min-room.ensures _ _ c.walk.ensures _ c.in_err-walk.was))
 
-pub walk-written-requires : goal.walk-written-requires
-walk-written-requires c = (opens (goal.at.walk-written-requires c).In-Accepted, omega arith, omega (arith, c.least-room.ensures))
+pub walk-requires-2 : goal.walk-requires-2
+walk-requires-2 c = (opens (goal.at.walk-requires-2 c).In-Ok, omega arith, omega (arith, c.min-room.ensures))
 
 pub returns : goal.returns
 returns c =
-    goes (goal.at.returns c).In-Accepted _ _ (ListingsAnswered.listed _ _ _ _ _ _ ((ListingsFound.group_found _ _ _ (opens (goal.at.returns c).In-Accepted) _ c.find-located.ensures _ c.in-Plain.is)) _ c.least-room.ensures _ c.part-part.ensures _ _ c.walk-judged.ensures c.if-judged-ne0.false _ _ c.walk-written.ensures)
+    let opened = (goal.at.returns c).In-Ok in
+    goes opened _ _ (ListingsAnswered.listed _ _ _ _ (ListingsFound.group_found _ _ _ (opens opened) _ c.find.ensures _ c.in_ok-found.was) _ c.min-room.ensures _ _ c.walk.ensures _ c.in_ok-walk.was _ _ c.walk-2.ensures)

@@ -11,9 +11,6 @@ use Rattle.vgroup.proofs.listing.put_pair.Goals as goal
 pub returns-then-table-at : goal.returns-then-table-at
 returns-then-table-at c = sym (put_past _ _ _ c.if-table-at.true)
 
-pub overflow_sub-table : goal.overflow_sub-table
-overflow_sub-table c = rw length-set (omega (arith, c.if-table-at.false))
-
 pub returns-then-table-at-lt2 : goal.returns-then-table-at-lt2
 unfolding put
 returns-then-table-at-lt2 c = let h = rw length-set at c.if-table-at-lt2.true in sym (set_out _ _ _ (rw length-set (omega (arith, h, c.if-table-at.false))))

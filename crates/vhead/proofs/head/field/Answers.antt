@@ -5,7 +5,7 @@ use Rattle.vhead.proofs.Heads
 use Rattle.vhead.proofs.head.field.Goals as goal
 
 pub field_at-requires : goal.field_at-requires
-field_at-requires c = (c.read16-fields.ensures.is ∙ sym (Heads.fields_count _), omega (arith, c.ranges.i))
+field_at-requires c = (c.read16-fields.ensures.is ∙ sym (Heads.fields_count _), c.read16-fields.ensures.small, omega (arith, c.ranges.i))
 
 pub returns : goal.returns
 returns c =

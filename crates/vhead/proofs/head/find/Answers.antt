@@ -1,5 +1,5 @@
 -- `vhead::head::find` meets its contract. Assumes nothing.
-use mathlib.Core.Path.{sym, ap, ◌∙◌}
+use mathlib.Core.Path.{sym}
 use Rattle.directory.proofs.Opens
 use Rattle.vhead.specs.Heads.{head_within}
 use Rattle.vhead.proofs.HeadsRead
@@ -7,16 +7,9 @@ use Rattle.vhead.proofs.head.find.Goals as goal
 
 pub returns-in_default : goal.returns-in_default
 unfolding head_within
-returns-in_default c =
-    let o = c.open-opened.ensures in
-    let told = c.in_default.is in
-    let taken = c.refusal_of.ensures in
-    record {
-      answer = sym (Opens.refused_is _ _ o 12 _ _ told _ taken);
-      held = λ z. Opens.refused_positive _ _ o _ told (sym (ap (λ r. r.number) taken) ∙ z);
-    }
+returns-in_default c = record { answer = sym (Opens.refused_is _ _ c.open-opened.ensures 12 _ _ c.unwrap_err.ensures); held = tt }
 
 pub returns : goal.returns
 returns c =
-    let both = HeadsRead.head_found_opened _ _ _ _ (Opens.accepted_with _ _ c.open-opened.ensures _ c.in-Accepted.is) c.find_in.result (c.find_in.ensures.answer, c.find_in.ensures.held) in
+    let both = HeadsRead.head_found_opened _ _ _ _ (Opens.accepted_with _ _ c.open-opened.ensures _ c.in-Ok.is) c.find_in.result (c.find_in.ensures.answer, c.find_in.ensures.held) in
     record { answer = both.0; held = both.1 }

@@ -2,7 +2,6 @@
 use Prim.Native.Nat.{◌+◌, ◌*◌, ◌-◌}
 use native.Mathlib.Omega.{arith}
 use mathlib.Core.Path.{◌≡◌, sym, ap, ◌∙◌}
-use lib.ListN.{length-set}
 use lib.Seq.{sets}
 use Rattle.vhead.specs.Heads.{name_rows}
 use Rattle.vset.proofs.Columns
@@ -15,30 +14,6 @@ loop-i-init c =
     let z : a.fields - 0 ≡ a.fields = omega arith in
     (omega arith, Columns.filling_start _ _ _ _ _ (ap (λ n. name_rows a.start a.part.now n (10 + 8 * a.fields)) z))
 
-pub overflow_add-list : goal.overflow_add-list
-overflow_add-list c = omega (arith, c.loop-i.invariant.0, c.read16-length.ensures.small)
-
-pub overflow_add-list-in-loop-i : goal.overflow_add-list-in-loop-i
-overflow_add-list-in-loop-i c = omega (arith, c.loop-i.invariant.0, c.read16-length.ensures.small)
-
-pub overflow_cast-list : goal.overflow_cast-list
-overflow_cast-list c = omega (arith, c.loop-i.invariant.0, c.read16-length.ensures.small)
-
-pub bounds-list-row : goal.bounds-list-row
-bounds-list-row c = omega (arith, c.loop-i.invariant.1.long)
-
-pub overflow_cast-list-in-loop-i : goal.overflow_cast-list-in-loop-i
-overflow_cast-list-in-loop-i c = omega (arith, c.loop-i.invariant.0, c.read16-length.ensures.small)
-
-pub bounds-list-row-in-loop-i : goal.bounds-list-row-in-loop-i
-bounds-list-row-in-loop-i c = simp length-set (omega (arith, c.loop-i.invariant.1.long))
-
-pub overflow_add-at-in-loop-i : goal.overflow_add-at-in-loop-i
-overflow_add-at-in-loop-i c = omega (arith, c.loop-i.invariant.0, c.read16-length.ensures.small)
-
-pub overflow_add-at-in-loop-i-2 : goal.overflow_add-at-in-loop-i-2
-overflow_add-at-in-loop-i-2 c = omega (arith, c.loop-i.invariant.0, c.read16-length.ensures.small)
-
 pub loop-i-preserved : goal.loop-i-preserved
 loop-i-preserved c =
     let l = c.loop-i in
@@ -47,9 +22,6 @@ loop-i-preserved c =
       rw (← next, c.read16-length.ensures.is)
           (Columns.filling_two c.loop-i-test.true l.invariant.1 (Heads.name_next _ _ _ _ _ c.loop-i-test.true)),
     )
-
-pub shape_of-list : goal.shape_of-list
-shape_of-list c = c.loop-i.invariant.1.long
 
 pub returns : goal.returns
 returns c =

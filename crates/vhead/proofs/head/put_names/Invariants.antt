@@ -6,6 +6,3 @@ use Rattle.vhead.proofs.head.put_names.Given as goal
 
 abbrev pub invariant-loop-i : goal.invariant-loop-i
 invariant-loop-i l = (l.at ≤ 10 + 8 * l.fields + 65537 * l.i) × Columns.Filling 2 l.fields (name_rows l.start l.part l.fields (10 + 8 * l.fields)) l.initial.list (name_rows l.start l.part (l.fields - l.i) l.at) l.list l.i
-
-abbrev pub decreases-loop-i : goal.decreases-loop-i
-decreases-loop-i l = l.fields - l.i

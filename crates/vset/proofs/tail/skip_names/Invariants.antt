@@ -4,8 +4,5 @@ use mathlib.Core.Path.{◌≡◌}
 use Rattle.vset.specs.Tails.{names_end}
 use Rattle.vset.proofs.tail.skip_names.Given as goal
 
-abbrev pub invariant-loop-i : goal.invariant-loop-i
-invariant-loop-i l = (l.i ≤ l.count) × (names_end l.part (l.count - l.i) l.end ≡ names_end l.part l.count l.at) × (l.end ≤ l.at + 65537 * l.i)
-
-abbrev pub decreases-loop-i : goal.decreases-loop-i
-decreases-loop-i l = l.count - l.i
+abbrev pub invariant-loop : goal.invariant-loop
+invariant-loop l = (names_end l.part (l.count - l.counter) l.end ≡ names_end l.part l.count l.at) × (l.end ≤ l.at + 65537 * l.counter)

@@ -2,8 +2,8 @@
 use Rattle.directory.proofs.Cursors
 use Rattle.directory.proofs.cursor.Cursor.settled.Given as goal
 
-abbrev pub invariant-loop-left : goal.invariant-loop-left
-invariant-loop-left l = Cursors.Passing l.image (Cursors.cursor l.initial.place l.initial.left l.initial.next l.initial.blocks) (Cursors.cursor l.place l.left l.next l.blocks)
+abbrev pub invariant-loop-at : goal.invariant-loop-at
+invariant-loop-at l = Cursors.Passing l.image l.initial.at l.at
 
-abbrev pub decreases-loop-left : goal.decreases-loop-left
-decreases-loop-left l = l.blocks
+abbrev pub decreases-loop-at : goal.decreases-loop-at
+decreases-loop-at l = l.at.blocks

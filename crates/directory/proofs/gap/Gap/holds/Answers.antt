@@ -1,6 +1,0 @@
--- `directory::gap::Gap::holds` meets its contract. Assumes nothing.
-use mathlib.Core.Bool.{false≢true}
-use Rattle.directory.proofs.gap.Gap.holds.Goals as goal
-
-pub returns : goal.returns
-returns c = λ e. absurd (false≢true e)
