@@ -11,9 +11,8 @@ ghost use Rattle.directory.specs.Steps.Doubts as Doubts;
 
 use super::chain::Shape;
 use super::format::{FREE, LONE};
-use super::key;
 use super::key::Key;
-use wire::inside;
+use super::{inside, key};
 
 // How many buckets of base tags there are: as many as the array of their highest references has.
 const BUCKETS: usize = 127;

@@ -6,8 +6,7 @@ ghost use Rattle.directory.specs.Slots.{tag_at, base_tag, rows, clash};
 ghost use Rattle.directory.specs.Steps.Keys.{Keyed, Based, mark_by, mark_at, is_either};
 
 use super::format::{EXTENDED_FIRST, LONE};
-use super::slot;
-use wire::inside;
+use super::{inside, slot};
 
 // How far the marks of one reference lie apart for base tags that follow each other: 65,536 by the golden ratio, so that the marks of few
 // tags with many references each seldom meet.

@@ -6,6 +6,7 @@ pub mod cursor;
 mod doubts;
 pub mod format;
 mod gap;
+mod inside;
 mod key;
 pub mod listing;
 pub mod places;
@@ -28,7 +29,6 @@ use cursor::Cursor;
 use format::{FREE, MAGIC, MOST_BYTES};
 use gap::Gap;
 use key::Key;
-use wire::inside;
 
 // How many blocks and slots the chain has, and how many of the slots are live.
 #[derive(Clone, Copy)]

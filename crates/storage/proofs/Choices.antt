@@ -1,6 +1,6 @@
 -- The answer of a choice between two images from what is found in each, and the bytes that it names. Assumes nothing.
 use Prim.Native.Nat.{ℕ}
-use mathlib.Core.Path.{◌≡◌, refl, ap, ◌∙◌}
+use mathlib.Core.Path.{◌≡◌, ap, ◌∙◌}
 use mathlib.Core.Bool.{true, false}
 use mathlib.Core.List.{List, [], ◌∷◌}
 use Rattle.answer.specs.Answer.{Answer, grant, refusal}
@@ -13,7 +13,6 @@ use Rattle.directory.proofs.Opens.{opened_goes}
 use Rattle.storage.specs.Elements.{element_at, is_absent, plain_only}
 use Rattle.storage.specs.Choices.{part_in, choose_found, choose_of, chosen_bytes}
 use Rattle.storage.specs.declared.element.Element.{Element}
-use Rattle.storage.specs.declared.element.Element.TheVariants.{Absent, NotStored, Plain, Extended}
 
 -- where both images open
 module _ (s t : List ℕ) (tag ref : ℕ) (sound : (open_of s).number ≡ 0) (other : (open_of t).number ≡ 0) (x : Element) (e : element_at s (find s tag ref) ≡ x) where
@@ -30,13 +29,6 @@ module _ (s t : List ℕ) (tag ref : ℕ) (sound : (open_of s).number ≡ 0) (ot
   pub choose_fallback : is_absent x ≡ true → (y : Element) → element_at t (find t tag ref) ≡ y → choose_of s t tag ref ≡ part_in 2 (plain_only y)
   unfolding choose_found
   choose_fallback z y f = choose_goes ∙ on_true (is_absent x) _ _ z ∙ ap (λ z. part_in 2 (plain_only z)) f
-
--- an element that is there in any way
-pub not_absent : (x : Element) → (x ≡ Absent → ⊥) → is_absent x ≡ false
-not_absent Absent z = absurd (z refl)
-not_absent (NotStored p) z = refl
-not_absent (Plain x) z = refl
-not_absent (Extended p) z = refl
 
 -- ---- The bytes that an answer names
 

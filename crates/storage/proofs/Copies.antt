@@ -24,7 +24,7 @@ use Rattle.directory.specs.Rules.{IsStored}
 use Rattle.directory.specs.Named.{Named}
 use Rattle.directory.proofs.Opens.{opened_goes, opened_passed}
 use Rattle.std.specs.Prelude.{Result, Ok, Err}
-use Rattle.storage.specs.Elements.{element_at, plain_only, on_plain}
+use Rattle.storage.specs.Elements.{element_at}
 use Rattle.storage.specs.Descriptions.{description_of, record_length, record_fault}
 use Rattle.storage.specs.Walks.{Walk, chain_of}
 use Rattle.storage.specs.Copies.{Stored, in_place, in_blocks, copy_at, copy_found, copy_of, bytes_found, element_bytes}
@@ -146,13 +146,6 @@ module _ (s : List ℕ) (tag ref : ℕ) (sound : (open_of s).number ≡ 0) (x : 
   pub copied : (out after : List ℕ) (numbers : Answer) → Does (copy_found s (length out) x) (bytes_found s x) out after numbers
       → Does (copy_of s tag ref (length out)) (element_bytes s tag ref) out after numbers
   copied out after numbers c = rw (copy_goes (length out), bytes_found_lem) c
-
--- one that is not extended, by what a call reading plain storage alone makes of it
-pub copy_plain : (s : List ℕ) (room : ℕ) (x : Element) → ((p : ℕ) → x ≡ Extended p → ⊥) → copy_found s room x ≡ on_plain 2 (λ p offset size. copy_at room p (in_place s offset size)) (plain_only x)
-copy_plain s room Absent other = refl
-copy_plain s room (NotStored p) other = refl
-copy_plain s room (Plain x) other = refl
-copy_plain s room (Extended p) other = absurd (other p refl)
 
 -- what it does with an element in plain storage
 module _ (s : List ℕ) (p offset size : ℕ) (out : List ℕ) where

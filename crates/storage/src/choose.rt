@@ -3,7 +3,7 @@ ghost use Rattle.std.specs.Prelude.{◌≡◌};
 ghost use Rattle.storage.specs.Choices.{chosen_numbers, choose_of, chosen_bytes};
 
 use super::element;
-use super::element::{Element, Part};
+use super::element::Part;
 use answer::Refusal;
 
 // The part, in the current image or in the fallback.
@@ -17,15 +17,20 @@ pub enum Chosen {
 pub fn numbers(current: &[u8], fallback: &[u8], tag: u16, reference: u16) -> Result<Chosen, Refusal>
     ensures { chosen_numbers result ≡ choose_of current.now fallback.now tag reference }
 {
-    let counts = directory::open(current)?;
-    let fallback_counts = directory::open(fallback)?;
-    match element::find(current, counts.blocks, tag, reference) {
-        Element::Absent => {
-            let part = element::locate(fallback, fallback_counts.blocks, tag, reference)?;
-            Ok(Chosen::Fallback(part))
-        }
-        found => Ok(Chosen::Current(found.plain()?)),
+    let opened = directory::open(current);
+    let Ok(counts) = opened else {
+        return Err(opened.unwrap_err());
+    };
+    let opened_fallback = directory::open(fallback);
+    let Ok(fallback_counts) = opened_fallback else {
+        return Err(opened_fallback.unwrap_err());
+    };
+    let found = element::find(current, counts.blocks, tag, reference);
+    if found.is_absent() {
+        let part = element::locate(fallback, fallback_counts.blocks, tag, reference)?;
+        return Ok(Chosen::Fallback(part));
     }
+    Ok(Chosen::Current(found.plain()?))
 }
 
 // The part, empty where the call is refused.
@@ -36,6 +41,6 @@ pub fn part<'a>(current: &'a [u8], fallback: &'a [u8], tag: u16, reference: u16)
     match numbers(current, fallback, tag, reference) {
         Ok(Chosen::Current(part)) => part.bytes(current),
         Ok(Chosen::Fallback(part)) => part.bytes(fallback),
-        Err(_) => &[],
+        Err(_) => wire::part(current, 0, 0),
     }
 }

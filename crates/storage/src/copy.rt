@@ -41,16 +41,20 @@ pub fn copy(image: &[u8], tag: u16, reference: u16, out: &mut [u8]) -> Result<us
     ensures { Does (copy_of image.now tag reference (length out.old)) (element_bytes image.now tag reference)
         out.old out.new (copied_numbers result) }
 {
-    let counts = directory::open(image)?;
+    let opened = directory::open(image);
+    let Ok(counts) = opened else {
+        return Err(Carrying::from(opened.unwrap_err()));
+    };
     match element::find(image, counts.blocks, tag, reference) {
-        Element::Extended(slot) => copy_blocks(image, counts.blocks, slot, out),
-        found => {
-            let part = found.plain()?;
+        Element::Absent => Err(Carrying::from(Rule::Absent.at(0))),
+        Element::NotStored(slot) => Err(Carrying::from(Rule::NotStored.at(slot))),
+        Element::Plain(part) => {
             if out.len() < part.length {
                 return Err(Carrying::from(Rule::Small.at(0)));
             }
             wire::write_bytes(out, 0, part.bytes(image));
             Ok(part.length)
         }
+        Element::Extended(slot) => copy_blocks(image, counts.blocks, slot, out),
     }
 }

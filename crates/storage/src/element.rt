@@ -8,7 +8,7 @@ ghost use Rattle.directory.specs.Lookup.{find_in};
 ghost use Rattle.directory.specs.Slots.{base_tag, unstored_at, size_at, content_at, tag_at};
 ghost use Rattle.directory.specs.Rules.{IsStored};
 ghost use Rattle.directory.specs.Steps.Cursors.{most_place};
-ghost use Rattle.storage.specs.Elements.{extended_at, start_at, element_at, plain_only, located_at};
+ghost use Rattle.storage.specs.Elements.{extended_at, start_at, element_at, is_absent, plain_only, located_at};
 ghost use Rattle.storage.specs.Tables.{is_there};
 ghost use Rattle.wire.specs.Numbers.{part};
 
@@ -131,6 +131,18 @@ pub fn find(image: &[u8], blocks: usize, tag: u16, reference: u16) -> Element
 }
 
 impl Element {
+    // Whether nothing is named.
+    pub(crate) fn is_absent(self) -> bool
+        ensures { result ≡ is_absent self }
+    {
+        match self {
+            Element::Absent => true,
+            Element::NotStored(_) => false,
+            Element::Plain(_) => false,
+            Element::Extended(_) => false,
+        }
+    }
+
     // For a call that reads plain storage alone: the element, or why it is refused.
     pub fn plain(self) -> Result<Part, Refusal>
         ensures { result ≡ plain_only self }

@@ -9,6 +9,7 @@ ghost use Rattle.storage.specs.Sizes.{sized_numbers, size_of_stored, size_of};
 use super::element::Element;
 use super::{description, element};
 use answer::Refusal;
+use answer::refusals::Rule;
 
 // The size of the element in linked blocks of the slot at p.
 fn size_in_blocks(image: &[u8], p: usize) -> Result<usize, Refusal>
@@ -24,9 +25,14 @@ fn size_in_blocks(image: &[u8], p: usize) -> Result<usize, Refusal>
 pub fn size(image: &[u8], tag: u16, reference: u16) -> Result<usize, Refusal>
     ensures { sized_numbers result ≡ size_of image.now tag reference }
 {
-    let counts = directory::open(image)?;
+    let opened = directory::open(image);
+    let Ok(counts) = opened else {
+        return Err(opened.unwrap_err());
+    };
     match element::find(image, counts.blocks, tag, reference) {
+        Element::Absent => Err(Rule::Absent.at(0)),
+        Element::NotStored(slot) => Err(Rule::NotStored.at(slot)),
+        Element::Plain(part) => Ok(part.length),
         Element::Extended(slot) => size_in_blocks(image, slot),
-        found => Ok(found.plain()?.length),
     }
 }

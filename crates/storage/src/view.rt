@@ -10,8 +10,12 @@ use answer::Refusal;
 pub fn numbers(image: &[u8], tag: u16, reference: u16) -> Result<Part, Refusal>
     ensures { viewed_numbers result ≡ view_of image.now tag reference }
 {
-    let counts = directory::open(image)?;
-    element::locate(image, counts.blocks, tag, reference)
+    let opened = directory::open(image);
+    let Ok(counts) = opened else {
+        return Err(opened.unwrap_err());
+    };
+    let found = element::locate(image, counts.blocks, tag, reference)?;
+    Ok(found)
 }
 
 // The element's own part of the image, empty where the call is refused.
@@ -20,6 +24,6 @@ pub fn part(image: &[u8], tag: u16, reference: u16) -> &[u8]
 {
     match numbers(image, tag, reference) {
         Ok(part) => part.bytes(image),
-        Err(_) => &[],
+        Err(_) => wire::part(image, 0, 0),
     }
 }

@@ -81,6 +81,11 @@ get_or_column e v i c r (suc n) (suc j) h =
     let k : suc r + j ≡ r + suc j = omega arith in
     get_or_column e v i c (suc r) n j (omega arith) ∙ ap (λ k. value_bits (value_in e v k i c)) k
 
+-- what was read in an order and a width that are those asked for
+pub reads_own : (byte_order own : ByteOrder) → byte_order ≡ own → (width k : ℕ) → width ≡ k → (v : List ℕ) (at n : ℕ) → ReadsIn own k v at n
+    → ReadsIn byte_order width v at n
+reads_own byte_order own o width k w v at n r = rw (o, w) r
+
 -- ---- The loop
 
 -- a pattern that was read, and the greatest of its type that is no negative number's

@@ -5,7 +5,7 @@ use mathlib.Core.Path.{◌≡◌}
 use mathlib.Core.Logic.{inl, inr}
 use Rattle.std.proofs.lemmas.Grind.{common_steps}
 use Rattle.answer.proofs.Tests.{zero?}
-use Rattle.wire.specs.Widths.{Fixed}
+use Rattle.vdata.specs.Steps.{Fixed}
 use Rattle.records.specs.Types.{width_of, row_of}
 
 pub width_fixed : (code : ℕ) → 1 ≤ width_of code → Fixed (width_of code)

@@ -1,5 +1,5 @@
 -- What the functions behind the calls take and leave. Assumes nothing.
-use Rattle.std.specs.Prelude.{ℕ, zero, suc, ◌+◌, ◌*◌, ◌-◌, ◌^◌, ◌<◌, ◌≤◌, ◌≡◌, List, [], ◌∷◌, length, true, false, leb}
+use Rattle.std.specs.Prelude.{ℕ, zero, suc, ◌+◌, ◌*◌, ◌-◌, ◌^◌, ◌<◌, ◌≤◌, ◌≡◌, ◌⊎◌, List, [], ◌∷◌, length, true, false, leb}
 use Rattle.records.specs.Types.{width_of, kind_of}
 use Rattle.vhead.specs.declared.field.Numbers.{Numbers}
 use Rattle.vhead.specs.declared.head.Head.{Head}
@@ -30,6 +30,10 @@ extended most n = elim (leb n most) [ true ↦ n | false ↦ n + (18446744073709
 pub record Splits (code most : ℕ) : Type 0 where
   pub room : (n : ℕ) → n < 18446744073709551616 → n < 256 ^ width_of code → most < n → (n ≤ 2 * most + 1) × (most ≤ 2147483647)
   pub bits : (n : ℕ) → n < 18446744073709551616 → n < 256 ^ width_of code → value_bits (value_by (kind_of code) (width_of code) n) ≡ extended most n
+
+-- the widths of types
+abbrev pub Fixed : ℕ → Type 0
+Fixed width = (width ≡ 1) ⊎ ((width ≡ 2) ⊎ ((width ≡ 4) ⊎ (width ≡ 8)))
 
 -- so many values of a width, the first at a place and each so many bytes after the one before, lie inside so many bytes
 abbrev pub AllInside : ℕ → ℕ → ℕ → ℕ → ℕ → Type 0

@@ -13,9 +13,9 @@ ghost use Rattle.vdata.specs.Columns as Columns;
 ghost use Rattle.vdata.specs.Steps as Steps;
 
 use super::format::VALUES_TAG;
-use super::kind;
 use super::kind::Kind;
 use super::value::{check_field, place};
+use super::{inside, kind};
 use answer::Refusal;
 use answer::refusals::Rule;
 use records::scalar;
@@ -90,7 +90,7 @@ impl Laid<'_> {
     {
         let most = greatest(self.code);
         for i in 0..self.count {
-            let n = wire::inside::read_number(self.part, self.first + i * self.step, WIDTH, order);
+            let n = inside::read_number(self.part, self.first + i * self.step, WIDTH, order);
             out[i] = bits(n, most);
         }
     }

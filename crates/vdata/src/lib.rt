@@ -3,5 +3,6 @@
 
 pub mod column;
 pub mod format;
+mod inside;
 pub mod kind;
 pub mod value;

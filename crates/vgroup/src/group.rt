@@ -78,7 +78,9 @@ fn put_members(part: &[u8], count: usize, list: &mut [u16])
     }
 }
 
-// The element of the group of a reference in a chain of so many blocks, where its record breaks no rule.
+// The element of the group of a reference in a chain of so many blocks, where its record breaks no rule. It stays a call of its own, so that
+// what it keeps on the stack stands once in a listing and not in each of its levels.
+#[inline(never)]
 pub fn find(image: &[u8], blocks: usize, reference: u16) -> Result<Part, Refusal>
     ensures { sound_of result ≡ Groups.sound_group image.now (find_in image.now blocks Limits.group_tag reference) }
 {

@@ -393,6 +393,16 @@ le_four s at =
     omega (arith, le_two s at)
 
 -- a byte is its number in either order
+pub reads_one : (order : ByteOrder) (s : List ℕ) (at n : ℕ) → Reads 1 s at n → ReadsIn order 1 s at n
+reads_one order s at n r = record { is = r.is ∙ number_one BigEndian s at ∙ sym (number_one order s at); small = r.small }
+
+-- what was read in an order and a width that are those asked for
+pub reads_asked : (order own : ByteOrder) → order ≡ own → (width k : ℕ) → width ≡ k → k ≤ 8 → (s : List ℕ) (at n : ℕ) → ReadsIn own k s at n
+    → ReadsIn order (min width 8) s at n
+reads_asked order own o width k w l s at n r =
+    let m : min width 8 ≡ k = omega arith in
+    rw (o, m) r
+
 pub reads_byte : (order : ByteOrder) (s : List ℕ) (at b : ℕ) → b ≡ get_or s at 0 → Bytes s → ReadsIn order 1 s at b
 reads_byte order s at b e h = record { is = e ∙ sym (number_one order s at); small = omega (arith, h at) }
 

@@ -1,14 +1,12 @@
 // Numbers in bytes: the only way in this library to read or write one. Most significant byte first, but where a byte order is named.
 //
-// Every function answers on all inputs, but those of `inside`. A byte past the end reads as 0, and what would be written past the end is
-// dropped.
+// Every function answers on all inputs. A byte past the end reads as 0, and what would be written past the end is dropped.
 #![tactic(auto)]
 
-ghost use Rattle.std.specs.Prelude.{◌≡◌, ◌+◌, ◌<◌, ◌≤◌, min, replicate};
+ghost use Rattle.std.specs.Prelude.{◌≡◌, ◌+◌, ◌<◌, ◌≤◌, length, get_or, min, replicate};
 ghost use Rattle.wire.specs.Numbers as Numbers;
 ghost use Rattle.wire.specs.Numbers.{bytes, put, low_at, high_at, ReadsIn, Reads};
-
-pub mod inside;
+ghost use Rattle.wire.specs.declared.ByteOrder.TheVariants.{LittleEndian};
 
 // Which byte of a number stands first: its most significant one, or its least.
 #[derive(Clone, Copy)]
@@ -37,9 +35,43 @@ pub fn read8(s: &[u8], at: usize) -> usize
     }
 }
 
+pub fn read16(s: &[u8], at: usize) -> usize
+    ensures { Reads 2 s.now at result }
+{
+    if s.len() <= at {
+        return 0;
+    }
+    if s.len() - at < 2 {
+        return read8(s, at) * 256 + read8(s, at + 1);
+    }
+    usize::from(s[at]) * 256 + usize::from(s[at + 1])
+}
+
+pub fn read32(s: &[u8], at: usize) -> usize
+    ensures { Reads 4 s.now at result }
+{
+    if s.len() <= at {
+        return 0;
+    }
+    if s.len() - at < 4 {
+        return read16(s, at) * 65536 + read16(s, at + 2);
+    }
+    usize::from(s[at]) * 16777216
+        + usize::from(s[at + 1]) * 65536
+        + usize::from(s[at + 2]) * 256
+        + usize::from(s[at + 3])
+}
+
+pub fn read64(s: &[u8], at: usize) -> usize
+    ensures { Reads 8 s.now at result }
+{
+    if s.len() <= at {
+        return 0;
+    }
+    read32(s, at) * 4294967296 + read32(s, at + 4)
+}
+
 // The number in so many bytes, at most 8, in a byte order, byte by byte.
-#[cold]
-#[inline(never)]
 fn read_bytes(s: &[u8], at: usize, width: usize, order: ByteOrder) -> usize
     ensures { ReadsIn order (min width 8) s.now at result }
 {
@@ -54,60 +86,96 @@ fn read_bytes(s: &[u8], at: usize, width: usize, order: ByteOrder) -> usize
     n
 }
 
-// The number in WIDTH bytes, in a byte order: where all are there, with no test for each.
-fn read<const WIDTH: usize>(s: &[u8], at: usize, order: ByteOrder) -> usize
-    requires { WIDTH ≤ 8 }
-    ensures { ReadsIn order WIDTH s.now at result }
+// The numbers in 2, 4 and 8 bytes, least significant byte first.
+fn low16(s: &[u8], at: usize) -> usize
+    ensures { ReadsIn LittleEndian 2 s.now at result }
 {
     if s.len() <= at {
         return 0;
     }
-    if s.len() - at < WIDTH {
-        return read_bytes(s, at, WIDTH, order);
+    if s.len() - at < 2 {
+        return read8(s, at + 1) * 256 + read8(s, at);
     }
-    inside::read::<WIDTH>(s, at, order)
+    usize::from(s[at + 1]) * 256 + usize::from(s[at])
 }
 
-pub fn read16(s: &[u8], at: usize) -> usize
-    ensures { Reads 2 s.now at result }
+fn low32(s: &[u8], at: usize) -> usize
+    ensures { ReadsIn LittleEndian 4 s.now at result }
 {
-    read::<2>(s, at, ByteOrder::BigEndian)
+    if s.len() <= at {
+        return 0;
+    }
+    if s.len() - at < 4 {
+        return low16(s, at + 2) * 65536 + low16(s, at);
+    }
+    usize::from(s[at + 3]) * 16777216
+        + usize::from(s[at + 2]) * 65536
+        + usize::from(s[at + 1]) * 256
+        + usize::from(s[at])
 }
 
-pub fn read32(s: &[u8], at: usize) -> usize
-    ensures { Reads 4 s.now at result }
+fn low64(s: &[u8], at: usize) -> usize
+    ensures { ReadsIn LittleEndian 8 s.now at result }
 {
-    read::<4>(s, at, ByteOrder::BigEndian)
+    if s.len() <= at {
+        return 0;
+    }
+    low32(s, at + 4) * 4294967296 + low32(s, at)
 }
 
-pub fn read64(s: &[u8], at: usize) -> usize
-    ensures { Reads 8 s.now at result }
-{
-    read::<8>(s, at, ByteOrder::BigEndian)
-}
-
-// The number in so many bytes, at most 8, in a byte order.
+// The number in so many bytes, at most 8, in a byte order: of 1, 2, 4 or 8 bytes without a loop.
 pub fn read_number(s: &[u8], at: usize, width: usize, order: ByteOrder) -> usize
     ensures { ReadsIn order (min width 8) s.now at result }
 {
-    match width {
-        1 => read::<1>(s, at, order),
-        2 => read::<2>(s, at, order),
-        4 => read::<4>(s, at, order),
-        8 => read::<8>(s, at, order),
-        _ => read_bytes(s, at, width, order),
+    match order {
+        ByteOrder::BigEndian => match width {
+            1 => read8(s, at),
+            2 => read16(s, at),
+            4 => read32(s, at),
+            8 => read64(s, at),
+            _ => read_bytes(s, at, width, order),
+        },
+        ByteOrder::LittleEndian => match width {
+            1 => read8(s, at),
+            2 => low16(s, at),
+            4 => low32(s, at),
+            8 => low64(s, at),
+            _ => read_bytes(s, at, width, order),
+        },
     }
 }
 
-// Writes a number into WIDTH bytes.
+// The byte of a number in WIDTH bytes that has so many before it.
+fn byte<const WIDTH: usize>(x: usize, i: usize) -> u8
+    requires { (WIDTH ≤ 8) × (i < WIDTH) }
+    ensures { result ≡ get_or (bytes WIDTH x) i 0 }
+{
+    ((x >> (8 * (WIDTH - 1 - i))) % 256) as u8
+}
+
+// Writes a number into WIDTH bytes that are all there.
+fn write_whole<const WIDTH: usize>(s: &mut [u8], at: usize, x: usize)
+    requires { (WIDTH ≤ 8) × (at + WIDTH ≤ length s.old) }
+    ensures { s.new ≡ put s.old at (bytes WIDTH x) }
+{
+    for i in 0..WIDTH {
+        s[at + i] = byte::<WIDTH>(x, i);
+    }
+}
+
+// Writes a number into WIDTH bytes: where all are there, with no test for each.
 fn write<const WIDTH: usize>(s: &mut [u8], at: usize, x: usize)
     requires { WIDTH ≤ 8 }
     ensures { s.new ≡ put s.old at (bytes WIDTH x) }
 {
+    if at < s.len() && WIDTH <= s.len() - at {
+        write_whole::<WIDTH>(s, at, x);
+        return;
+    }
     let room = s.len().saturating_sub(at);
     for i in 0..WIDTH {
         if i < room {
-            s[at + i] = ((x >> (8 * (WIDTH - 1 - i))) % 256) as u8;
+            s[at + i] = byte::<WIDTH>(x, i);
         }
     }
 }

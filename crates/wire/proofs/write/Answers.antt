@@ -1,8 +1,8 @@
 -- `wire::write` meets its contract. The invariant: the first i bytes are put in place. Assumes nothing.
-use Prim.Native.Nat.{◌+◌, ◌*◌, ◌-◌, ◌/◌, ◌%◌, ◌^◌}
+use Prim.Native.Nat.{◌+◌}
 use native.Mathlib.Omega.{arith}
 use mathlib.Core.Path.{◌≡◌, refl, sym, ap, ◌∙◌}
-use lib.ListN.{set}
+use lib.ListN.{set, get_or}
 use lib.Seq.{set_out, take_all}
 use Rattle.wire.specs.Numbers.{bytes, put}
 use Rattle.wire.specs.declared.ByteOrder.TheVariants.{BigEndian}
@@ -18,14 +18,14 @@ pub loop-i-preserved : goal.loop-i-preserved
 loop-i-preserved g c =
     let l = c.loop-i in
     let at = c.args.at + l.i in
-    let v = c.args.x / 2 ^ (8 * (g.row.WIDTH - 1 - l.i)) % 256 in
+    let v = get_or (bytes g.row.WIDTH c.args.x) l.i 0 in
     let n = Numbers.length_bytes BigEndian g.row.WIDTH c.args.x in
     let stored : c.if-i-room.s ≡ set l.s at v =
     elim c.if-i-room.branch [
-      | then-i-room w ↦ w.s-is
+      | then-i-room w ↦ w.s-is ∙ ap (set l.s at) w.byte.ensures
       | else-i-room w ↦ w.s-is ∙ sym (set_out l.s at v (omega arith))
     ] in
-    stored ∙ Numbers.put_more _ _ (bytes g.row.WIDTH c.args.x) _ l.i v l.invariant (omega arith) (sym (Numbers.byte_of g.row.WIDTH c.args.x l.i (omega arith)))
+    stored ∙ Numbers.put_more _ _ (bytes g.row.WIDTH c.args.x) _ l.i v l.invariant (omega arith) refl
 
 pub returns : goal.returns
 returns g c =

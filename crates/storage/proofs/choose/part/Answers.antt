@@ -18,4 +18,4 @@ returns-in-Ok-Fallback c =
 
 pub returns-in-Err : goal.returns-in-Err
 unfolding part
-returns-in-Err c = sym (Choices.bytes_neither _ _ _ c.in-Err.field-0 (sym c.numbers.ensures ∙ ap chosen_numbers c.in-Err.is))
+returns-in-Err c = c.part.ensures ∙ sym (Choices.bytes_neither _ _ _ c.in-Err.field-0 (sym c.numbers.ensures ∙ ap chosen_numbers c.in-Err.is))

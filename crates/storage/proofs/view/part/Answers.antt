@@ -10,4 +10,4 @@ returns-in-Ok c = c.bytes.ensures ∙ sym (Views.bytes_granted _ _ _ _ (sym c.nu
 
 pub returns-in-Err : goal.returns-in-Err
 unfolding part
-returns-in-Err c = sym (Views.bytes_refused _ _ c.in-Err.field-0 (sym c.numbers.ensures ∙ ap viewed_numbers c.in-Err.is))
+returns-in-Err c = c.part.ensures ∙ sym (Views.bytes_refused _ _ c.in-Err.field-0 (sym c.numbers.ensures ∙ ap viewed_numbers c.in-Err.is))

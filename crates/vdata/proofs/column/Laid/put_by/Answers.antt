@@ -1,7 +1,7 @@
 -- `vdata::column::Laid::put_by` meets its contract. The invariant: the values that are left, put on what is there, give the whole. Assumes nothing.
 use native.Mathlib.Omega.{arith}
 use mathlib.Core.Path.{sym, subst}
-use Rattle.wire.specs.Widths.{Fixed}
+use Rattle.vdata.specs.Steps.{Fixed}
 use Rattle.vdata.proofs.Widths
 use Rattle.vdata.proofs.Columns
 use Rattle.vdata.proofs.column.Laid.put_by.Goals as goal

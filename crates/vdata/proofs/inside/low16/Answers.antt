@@ -1,0 +1,9 @@
+-- `vdata::inside::low16` meets its contract. Assumes nothing.
+use native.Mathlib.Omega.{arith}
+use Rattle.wire.proofs.Numbers
+use Rattle.vdata.proofs.inside.low16.Goals as goal
+
+pub returns : goal.returns
+returns c =
+    let a = c.args in
+    record { is = omega (arith, Numbers.le_two a.part.now a.at); small = omega arith }

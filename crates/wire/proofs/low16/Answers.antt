@@ -1,0 +1,19 @@
+-- `wire::low16` meets its contract. Assumes nothing.
+use Prim.Native.Nat.{◌+◌}
+use native.Mathlib.Omega.{arith}
+use Rattle.wire.specs.declared.ByteOrder.TheVariants.{BigEndian, LittleEndian}
+use Rattle.wire.proofs.Numbers
+use Rattle.wire.proofs.low16.Goals as goal
+
+pub returns-then-s-at : goal.returns-then-s-at
+returns-then-s-at c = Numbers.reads_past LittleEndian 2 _ _ c.if-s-at.true
+
+pub returns-then-s-at-lt2 : goal.returns-then-s-at-lt2
+returns-then-s-at-lt2 c =
+    let a = c.args in
+    record { is = omega (arith, Numbers.number_split LittleEndian 1 1 a.s.now a.at, Numbers.number_one LittleEndian a.s.now a.at, Numbers.number_one LittleEndian a.s.now (a.at + 1), Numbers.number_one BigEndian a.s.now a.at, Numbers.number_one BigEndian a.s.now (a.at + 1)); small = omega arith }
+
+pub returns : goal.returns
+returns c =
+    let a = c.args in
+    record { is = omega (arith, Numbers.le_two a.s.now a.at); small = omega arith }
